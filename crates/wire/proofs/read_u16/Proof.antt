@@ -1,0 +1,24 @@
+-- `read_u16` meets its contract. Assumes nothing.
+use mathlib.Core.Path.{sym}
+use Rattle.wire.proofs.Numbers.{num-past}
+use native.Mathlib.Omega.{arith}
+use borrow.Author.Needs.{needs}
+use Rattle.wire.proofs.read_u16.Statement.{statement}
+use Rattle.wire.proofs.read_u16.Tie as tie
+
+returns : tie.Need-returns
+returns c = (sym (num-past 2 (c .before .before .args .at) (c .before .before .args .s .now) (c .if1 .taken)), omega arith)
+
+pub read-u16-spec : {M : Type 1} → statement M
+read-u16-spec =
+    tie.close
+    (tie.spec
+    returns
+    (λ c κs. search needs)
+    (λ c. search needs)
+    (λ c. search needs)
+    (λ c κs. search needs)
+    (λ c. search needs)
+    (λ c. search needs)
+    (λ c. search needs)
+    (λ c. search needs))

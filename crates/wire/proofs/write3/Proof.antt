@@ -1,0 +1,46 @@
+-- `write3` meets its contract. Assumes nothing.
+use mathlib.Core.Path.{refl, _∙_}
+use native.Mathlib.Omega.{arith}
+use Rattle.wire.proofs.Writing.{three-short, three-made}
+use borrow.Author.Needs.{needs}
+use Rattle.wire.proofs.write3.Statement.{statement}
+use Rattle.wire.proofs.write3.Tie as tie
+
+returns : tie.Need-returns
+returns c =
+    let g = c .before .before .before .before .before .args in
+    three-short (g .a .now) (g .b .now) (g .c .now) (g .out .now) (omega arith)
+
+returns-2 : tie.Need-returns-2
+returns-2 c =
+    let g = c .before .before .before .before .before .before .args in
+    three-short (g .a .now) (g .b .now) (g .c .now) (g .out .now) (omega arith)
+
+returns-3 : tie.Need-returns-3
+returns-3 c =
+    let g = c .before .before .before .before .before .before .before .args in
+    three-short (g .a .now) (g .b .now) (g .c .now) (g .out .now) (omega arith)
+
+returns-4 : tie.Need-returns-4
+returns-4 c =
+    let g = c .before .before .before .before .before .before .before .before .before .before .before .before .before .before .before .before .before .before .before .args in
+    three-made (g .a .now) (g .b .now) (g .c .now) (g .out .now) (omega arith) refl refl
+    (c .before .before .copy3 .ensures ∙ rw (c .before .before .before .before .before .before .copy2 .ensures, c .before .before .before .before .before .before .before .before .before .before .copy .ensures))
+    refl
+
+pub write3-spec : {M : Type 1} → statement M
+write3-spec =
+    tie.close
+    (tie.spec
+    returns
+    returns-2
+    (λ c. search needs)
+    returns-3
+    (λ c κs. search needs)
+    (λ c κs. search needs)
+    (λ c. search needs)
+    (λ c κs. search needs)
+    (λ c. search needs)
+    (λ c. search needs)
+    (λ c. search needs)
+    returns-4)

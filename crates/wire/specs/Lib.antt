@@ -1,0 +1,5 @@
+pub mod Choice
+pub mod Rules
+pub mod Numbers
+pub mod Parts
+pub mod Writing
