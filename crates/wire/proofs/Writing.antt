@@ -1,5 +1,5 @@
 -- How a writer ends: a law for each way. Assumes nothing.
-use mathlib.Core.Path.{_≡_, refl, sym, ap, _∙_}
+use mathlib.Core.Path.{_≡_, refl, sym, ap, _∙_, subst}
 use mathlib.Core.Bool.{Bool, true, false}
 use mathlib.Core.List.{List, [], _∷_, _++_, append-assoc}
 use Prim.Native.Nat.{ℕ, zero, suc, _+_, _≤_, _<_}
@@ -36,6 +36,11 @@ module _ (at : ℕ) (bytes room : List ℕ) where
   pub stores-past : {rules : List Rule} {answer : Written} {after : List ℕ} (n : ℕ) (b : Bool) → b ≡ false → Stores rules at bytes room answer after
       → Stores ((n when b) ∷ rules) at bytes room answer after
   stores-past n b e w = record { answers = rw e (w .answers); leaves = rw e (w .leaves) }
+
+-- the bytes by another name
+pub stores-same : (at : ℕ) {bytes bytes′ room : List ℕ} {answer : Written} {after : List ℕ} → bytes ≡ bytes′
+    → Stores (noRoom at bytes room ∷ []) at bytes room answer after → Stores (noRoom at bytes′ room ∷ []) at bytes′ room answer after
+stores-same at {room} {answer} {after} e w = subst (λ (l : List ℕ). Stores (noRoom at l room ∷ []) at l room answer after) e w
 
 -- ---- an image of three parts
 module _ (a b c room : List ℕ) where
