@@ -1,0 +1,4 @@
+pub mod Receive
+pub mod Feed
+pub mod Line
+pub mod Moves

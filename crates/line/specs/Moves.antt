@@ -1,0 +1,78 @@
+-- How the code splits a step: a move of the progress, by numbers alone, which says what to do with the store. The law `step-moves` says that
+-- both together are the step.
+use Prim.Native.Nat.{ℕ, _+_, _-_, _*_, _≤_, _<_}
+use mathlib.Core.List.{List}
+use mathlib.Core.Bool.{Bool, true, false}
+use lib.ListN.{set}
+use lib.Dec.{eqb}
+use Rattle.wire.specs.Choice.{pick}
+use Rattle.line.specs.Receive.{resting, reading, within, busy, goes, finished}
+use Rattle.line.specs.declared.Progress.{Progress}
+use Rattle.line.specs.declared.Action.{Action}
+use Rattle.line.specs.declared.Action.the-variants.{Keep, Put, Finish, Refuse}
+use Rattle.line.specs.declared.Move.{Move}
+use Rattle.line.specs.declared.Step.{Step}
+use Rattle.line.specs.declared.Event.{Event}
+use Rattle.line.specs.declared.Event.the-variants.{Nothing, Refused}
+
+abbrev pub keep : Progress → Move
+keep p = record { progress = p; action = Keep }
+
+abbrev pub refuse : ℕ → Move
+refuse n = record { progress = resting; action = Refuse n }
+
+unfoldable pub sizedMove : ℕ → Move
+sizedMove size = pick (within size) (keep (reading false 0 2 size)) (refuse 3)
+
+unfoldable pub storedMove : ℕ → ℕ → ℕ → ℕ → Move
+storedMove low got size v =
+    pick (eqb got (size + 1))
+    (record { progress = resting; action = Finish (got - 2) v size })
+    (record { progress = reading false low (got + 1) size; action = Put (got - 2) v })
+
+unfoldable pub takenMove : Progress → ℕ → Move
+takenMove p v =
+    pick (eqb (p .got) 0)
+    (keep (reading false v 1 (p .size)))
+    (pick (eqb (p .got) 1)
+    (sizedMove (p .low + 256 * v))
+    (storedMove (p .low) (p .got) (p .size) v))
+
+unfoldable pub unescapedMove : Progress → ℕ → Move
+unescapedMove p b = pick (eqb b 0x3E) (takenMove p 0x7E) (pick (eqb b 0x1C) (takenMove p 0x5C) (refuse 2))
+
+unfoldable pub inFrameMove : Progress → ℕ → Move
+inFrameMove p b =
+    pick (p .escaped)
+    (unescapedMove p b)
+    (pick (eqb b 0x5C) (keep (reading true (p .low) (p .got) (p .size))) (takenMove p b))
+
+unfoldable pub moveOf : Progress → ℕ → Move
+moveOf p b =
+    pick (eqb b 0x7E)
+    (record { progress = reading false 0 0 5; action = pick (busy p) (Refuse 1) Keep })
+    (pick (busy p) (inFrameMove p b) (keep p))
+
+-- ---- the store
+-- the places that an action names are places of the store
+abbrev pub Fine : Action → Type 0
+Fine Keep = Unit {0}
+Fine (Put at v) = at < 512
+Fine (Finish at v size) = (at < 512) × (5 ≤ size) × (size ≤ 512)
+Fine (Refuse n) = Unit {0}
+
+abbrev pub storeAfter : Action → List ℕ → List ℕ
+storeAfter Keep s = s
+storeAfter (Put at v) s = set s at v
+storeAfter (Finish at v size) s = set s at v
+storeAfter (Refuse n) s = s
+
+-- the event, from the store after it
+abbrev pub eventOf : Action → List ℕ → Event
+eventOf Keep s = Nothing
+eventOf (Put at v) s = Nothing
+eventOf (Finish at v size) s = finished size s
+eventOf (Refuse n) s = Refused n
+
+abbrev pub acted : Move → List ℕ → Step
+acted m s = goes (m .progress) (storeAfter (m .action) s) (eventOf (m .action) (storeAfter (m .action) s))

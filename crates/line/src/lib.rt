@@ -1,0 +1,500 @@
+// The receiver of a serial line. Its progress, flags and counts, goes by value through small functions; its store is written in one place.
+ghost use mathlib.Core.Path.{_≡_};
+ghost use mathlib.Core.Bool.{false};
+ghost use Prim.Native.Nat.{_+_, _<_, _≤_};
+ghost use lib.ListN.{length, take, drop};
+ghost use Rattle.line.specs.Receive as specs;
+ghost use Rattle.line.specs.Feed as feeding;
+ghost use Rattle.line.specs.Moves as moves;
+
+use wire::Part;
+
+pub struct Progress {
+    // A start byte has come, and its frame is not at its end.
+    pub inside: bool,
+    // The last byte was 5C.
+    pub escaped: bool,
+    // The size's low byte, while it alone has come.
+    pub low: u8,
+    // How many unescaped bytes have come, the size's two among them.
+    pub got: usize,
+    // The size, once both of its bytes have come.
+    pub size: usize,
+}
+
+// One record for the line: what has come of a frame, and the bytes after its size.
+pub struct Receiver {
+    pub progress: Progress,
+    pub store: [u8; 512],
+}
+
+pub enum Event {
+    Nothing,
+    Frame {
+        major: u8,
+        minor: u8,
+        wrapper: u8,
+        len: usize,
+    },
+    Refused(u8),
+}
+
+pub struct Step {
+    pub receiver: Receiver,
+    pub event: Event,
+}
+
+// What a byte asks of the store: nothing, a byte in its place, a frame's last byte in its place, or nothing and a refusal.
+pub enum Action {
+    Keep,
+    Put { at: usize, byte: u8 },
+    Finish { at: usize, byte: u8, size: usize },
+    Refuse(u8),
+}
+
+pub struct Move {
+    pub progress: Progress,
+    pub action: Action,
+}
+
+pub fn fresh() -> Receiver
+    ensures { λ r. ⌜ r ≡ specs.freshReceiver ⌝ }
+{
+    Receiver {
+        progress: Progress {
+            inside: false,
+            escaped: false,
+            low: 0,
+            got: 0,
+            size: 5,
+        },
+        store: [0; 512],
+    }
+}
+
+fn refuse(n: u8) -> Move
+    ensures { λ m. ⌜ m ≡ moves.refuse n ⌝ }
+{
+    Move {
+        progress: Progress {
+            inside: false,
+            escaped: false,
+            low: 0,
+            got: 0,
+            size: 5,
+        },
+        action: Action::Refuse(n),
+    }
+}
+
+// The size is complete.
+fn sized(size: usize) -> Move
+    ensures { λ m. ⌜ m ≡ moves.sizedMove size ⌝ }
+{
+    if size < 5 {
+        return refuse(3);
+    }
+    if 512 < size {
+        return refuse(3);
+    }
+    Move {
+        progress: Progress {
+            inside: true,
+            escaped: false,
+            low: 0,
+            got: 2,
+            size,
+        },
+        action: Action::Keep,
+    }
+}
+
+// An unescaped byte after the size.
+fn stored(low: u8, got: usize, size: usize, v: u8) -> Move
+    requires { ⌜ (2 ≤ got) × (size ≤ 512) × (got < size + 2) ⌝ }
+    ensures { λ m. ⌜ m ≡ moves.storedMove low got size v ⌝ }
+{
+    if got == size + 1 {
+        Move {
+            progress: Progress {
+                inside: false,
+                escaped: false,
+                low: 0,
+                got: 0,
+                size: 5,
+            },
+            action: Action::Finish {
+                at: got - 2,
+                byte: v,
+                size,
+            },
+        }
+    } else {
+        Move {
+            progress: Progress {
+                inside: true,
+                escaped: false,
+                low,
+                got: got + 1,
+                size,
+            },
+            action: Action::Put {
+                at: got - 2,
+                byte: v,
+            },
+        }
+    }
+}
+
+impl Progress {
+    fn busy(self) -> bool
+        ensures { λ b. ⌜ b ≡ specs.busy self ⌝ }
+    {
+        if !self.inside {
+            return false;
+        }
+        let size = self.size;
+        if size < 5 {
+            return false;
+        }
+        if 512 < size {
+            return false;
+        }
+        self.got < size + 2
+    }
+
+    // An unescaped byte.
+    fn taken(self, v: u8) -> Move
+        requires { ⌜ (self .size ≤ 512) × (self .got < self .size + 2) ⌝ }
+        ensures { λ m. ⌜ m ≡ moves.takenMove self v ⌝ }
+    {
+        let got = self.got;
+        if got == 0 {
+            Move {
+                progress: Progress {
+                    inside: true,
+                    escaped: false,
+                    low: v,
+                    got: 1,
+                    size: self.size,
+                },
+                action: Action::Keep,
+            }
+        } else if got == 1 {
+            sized(wire::wide(self.low) + 256 * wire::wide(v))
+        } else {
+            stored(self.low, got, self.size, v)
+        }
+    }
+
+    // A byte after 5C that is no start byte.
+    fn unescaped(self, b: u8) -> Move
+        requires { ⌜ (self .size ≤ 512) × (self .got < self .size + 2) ⌝ }
+        ensures { λ m. ⌜ m ≡ moves.unescapedMove self b ⌝ }
+    {
+        if b == 0x3E {
+            self.taken(0x7E)
+        } else if b == 0x1C {
+            self.taken(0x5C)
+        } else {
+            refuse(2)
+        }
+    }
+
+    // A byte inside a frame that is no start byte.
+    fn in_frame(self, b: u8) -> Move
+        requires { ⌜ (self .size ≤ 512) × (self .got < self .size + 2) ⌝ }
+        ensures { λ m. ⌜ m ≡ moves.inFrameMove self b ⌝ }
+    {
+        if self.escaped {
+            self.unescaped(b)
+        } else if b == 0x5C {
+            Move {
+                progress: Progress {
+                    inside: true,
+                    escaped: true,
+                    low: self.low,
+                    got: self.got,
+                    size: self.size,
+                },
+                action: Action::Keep,
+            }
+        } else {
+            self.taken(b)
+        }
+    }
+
+    // What a byte does to the progress, and what it asks of the store.
+    fn step(self, b: u8) -> Move
+        ensures { λ m. ⌜ m ≡ moves.moveOf self b ⌝ }
+    {
+        if b == 0x7E {
+            let progress = Progress {
+                inside: true,
+                escaped: false,
+                low: 0,
+                got: 0,
+                size: 5,
+            };
+            if self.busy() {
+                Move {
+                    progress,
+                    action: Action::Refuse(1),
+                }
+            } else {
+                Move {
+                    progress,
+                    action: Action::Keep,
+                }
+            }
+        } else if self.busy() {
+            self.in_frame(b)
+        } else {
+            Move {
+                progress: self,
+                action: Action::Keep,
+            }
+        }
+    }
+}
+
+fn front(store: &[u8], n: usize) -> &[u8]
+    requires { ⌜ n ≤ length (now store) ⌝ }
+    ensures { λ r. ⌜ now r ≡ take n (now (store .entry)) ⌝ }
+{
+    &store[..n]
+}
+
+// A frame of this size is complete in the store.
+fn finished(store: &[u8; 512], size: usize) -> Event
+    requires { ⌜ (5 ≤ size) × (size ≤ 512) ⌝ }
+    ensures { λ e. ⌜ e ≡ specs.finished size (now (store .entry)) ⌝ }
+{
+    let at = size - 2;
+    let next = at + 1;
+    let sum = crc::crc(front(store, at)) as usize;
+    let sent = wire::wide(store[at]) + 256 * wire::wide(store[next]);
+    if sum == sent {
+        Event::Frame {
+            major: store[0],
+            minor: store[1],
+            wrapper: store[2],
+            len: size - 5,
+        }
+    } else {
+        Event::Refused(4)
+    }
+}
+
+// The store is written, in one place at most.
+fn acted(store: &mut [u8; 512], action: Action) -> Event
+    requires { ⌜ moves.Fine action ⌝ }
+    ensures { λ e. ⌜ (now (store .exit) ≡ moves.storeAfter action (now (store .entry)))
+        × (e ≡ moves.eventOf action (moves.storeAfter action (now (store .entry)))) ⌝ }
+{
+    match action {
+        Action::Keep => Event::Nothing,
+        Action::Put { at, byte } => {
+            store[at] = byte;
+            Event::Nothing
+        }
+        Action::Finish { at, byte, size } => {
+            store[at] = byte;
+            finished(store, size)
+        }
+        Action::Refuse(n) => Event::Refused(n),
+    }
+}
+
+impl Receiver {
+    // What one byte does.
+    pub fn step(self, b: u8) -> Step
+        ensures { λ t. ⌜ t ≡ specs.stepOf self b ⌝ }
+    {
+        let was = self.progress;
+        let mut store = self.store;
+        let m = was.step(b);
+        let action = m.action;
+        let event = acted(&mut store, action);
+        let progress = m.progress;
+        Step {
+            receiver: Receiver { progress, store },
+            event,
+        }
+    }
+}
+
+pub struct Fed {
+    pub receiver: Receiver,
+    pub event: Event,
+    pub used: usize,
+}
+
+fn silent(e: Event) -> bool
+    ensures { λ r. ⌜ r ≡ feeding.silent e ⌝ }
+{
+    match e {
+        Event::Nothing => true,
+        Event::Frame {
+            major: _,
+            minor: _,
+            wrapper: _,
+            len: _,
+        } => false,
+        Event::Refused(_) => false,
+    }
+}
+
+pub struct Ran {
+    pub progress: Progress,
+    pub at: usize,
+}
+
+// Plain bytes of a frame, up to its last byte or a mark, go into the store.
+fn plain(store: &mut [u8; 512], low: u8, had: usize, size: usize, s: &[u8], from: usize) -> Ran
+    requires { ⌜ (2 ≤ had) × (5 ≤ size) × (size ≤ 512) × (had < size + 2) ⌝ }
+    ensures { λ p. ⌜ (from ≤ p .at)
+        × (feeding.fed from (drop from (now (s .entry))) (specs.holding (specs.reading false low had size) (now (store .entry)))
+        ≡ feeding.fed (p .at) (drop (p .at) (now (s .entry))) (specs.holding (p .progress) (now (store .exit)))) ⌝ }
+{
+    let mut got = had;
+    let mut i = from;
+    while i < s.len() {
+        let b = s[i];
+        if b == 0x7E {
+            return Ran {
+                progress: Progress {
+                    inside: true,
+                    escaped: false,
+                    low,
+                    got,
+                    size,
+                },
+                at: i,
+            };
+        }
+        if b == 0x5C {
+            return Ran {
+                progress: Progress {
+                    inside: true,
+                    escaped: false,
+                    low,
+                    got,
+                    size,
+                },
+                at: i,
+            };
+        }
+        if size < got {
+            return Ran {
+                progress: Progress {
+                    inside: true,
+                    escaped: false,
+                    low,
+                    got,
+                    size,
+                },
+                at: i,
+            };
+        }
+        let at = got - 2;
+        store[at] = b;
+        got += 1;
+        i += 1;
+    }
+    Ran {
+        progress: Progress {
+            inside: true,
+            escaped: false,
+            low,
+            got,
+            size,
+        },
+        at: i,
+    }
+}
+
+// Noise, up to the next start byte, is passed over.
+fn noise(s: &[u8], from: usize) -> usize
+    ensures { λ r. ⌜ (from ≤ r) × feeding.Passes (now (s .entry)) from r ⌝ }
+{
+    let mut i = from;
+    while i < s.len() {
+        if s[i] == 0x7E {
+            return i;
+        }
+        i += 1;
+    }
+    i
+}
+
+// As many bytes as change nothing but the store and the count: noise, and plain bytes of a frame.
+fn skip(progress: Progress, store: &mut [u8; 512], s: &[u8], from: usize) -> Ran
+    ensures { λ p. ⌜ (from ≤ p .at)
+        × (feeding.fed from (drop from (now (s .entry))) (specs.holding progress (now (store .entry)))
+        ≡ feeding.fed (p .at) (drop (p .at) (now (s .entry))) (specs.holding (p .progress) (now (store .exit)))) ⌝ }
+{
+    if !progress.busy() {
+        return Ran {
+            progress,
+            at: noise(s, from),
+        };
+    }
+    if progress.escaped {
+        return Ran { progress, at: from };
+    }
+    if progress.got < 2 {
+        return Ran { progress, at: from };
+    }
+    plain(store, progress.low, progress.got, progress.size, s, from)
+}
+
+impl Receiver {
+    // The bytes of `s` from `from` on, up to the first event or to the end.
+    pub fn feed(self, s: &[u8], from: usize) -> Fed
+        ensures { λ f. ⌜ f ≡ feeding.fed from (drop from (now (s .entry))) self ⌝ }
+    {
+        let mut progress = self.progress;
+        let mut store = self.store;
+        let mut i = from;
+        while i < s.len() {
+            let m = progress.step(s[i]);
+            let action = m.action;
+            let event = acted(&mut store, action);
+            let next = m.progress;
+            i += 1;
+            if !silent(event) {
+                return Fed {
+                    receiver: Receiver { progress: next, store },
+                    event,
+                    used: i,
+                };
+            }
+            let ran = skip(next, &mut store, s, i);
+            let after = ran.progress;
+            progress = after;
+            i = ran.at;
+        }
+        Fed {
+            receiver: Receiver { progress, store },
+            event: Event::Nothing,
+            used: i,
+        }
+    }
+}
+
+// The payload of a frame that was just handed out, in the store lent here; empty where it runs past the store.
+pub fn frame_payload(store: &[u8], len: usize) -> &[u8]
+    ensures { λ r. ⌜ now r ≡ specs.framePayload len (now (store .entry)) ⌝ }
+{
+    wire::part_of(store, Part { start: 3, len })
+}
+
+// The record is brought up to date in place.
+pub fn receive(r: &mut Receiver, b: u8) -> Event
+    ensures { λ e. ⌜ (now (r .exit) ≡ specs.stepOf (now (r .entry)) b .receiver) × (e ≡ specs.stepOf (now (r .entry)) b .event) ⌝ }
+{
+    let next = Receiver::step(*r, b);
+    *r = next.receiver;
+    next.event
+}
