@@ -1,2 +1,4 @@
 pub mod Moves
 pub mod Feeding
+pub mod Delivery
+pub mod Examples
