@@ -1,0 +1,175 @@
+// The line lister: reads a capture of the serial line from standard input and prints `frame TYPE LENGTH` or `refused N` for each event,
+// then `end`. Reading and writing go by way of buffers.
+ghost use mathlib.Core.Path.{_≡_};
+ghost use Prim.Native.Nat.{_+_, _≤_, _<_};
+ghost use lib.ListN.{length};
+use libc::STDIN_FILENO;
+use libc::STDOUT_FILENO;
+use line::Event;
+use line::Receiver;
+
+// One character; the place behind it is handed back, here and below.
+fn put(out: &mut [u8; 4096], at: usize, b: u8) -> usize
+    requires { ⌜ at < 4096 ⌝ }
+    ensures { λ r. ⌜ r ≡ at + 1 ⌝ }
+{
+    out[at] = b;
+    at + 1
+}
+
+// A piece of text.
+fn text(out: &mut [u8; 4096], from: usize, s: &[u8]) -> usize
+    requires { ⌜ from + length (now s) ≤ 4096 ⌝ }
+    ensures { λ r. ⌜ r ≡ from + length (now (s .entry)) ⌝ }
+{
+    let mut at = from;
+    let mut i = 0;
+    while i < s.len() {
+        out[at] = s[i];
+        at += 1;
+        i += 1;
+    }
+    at
+}
+
+// The first k of some digits.
+fn spell(out: &mut [u8; 4096], from: usize, digits: &[u8; 20], k: usize) -> usize
+    requires { ⌜ from ≤ 4076 ⌝ }
+    ensures { λ r. ⌜ r ≤ from + 20 ⌝ }
+{
+    let mut at = from;
+    let mut i = 0;
+    while i < 20 {
+        if k <= i {
+            return at;
+        }
+        out[at] = digits[i];
+        at += 1;
+        i += 1;
+    }
+    at
+}
+
+// A number in decimal.
+fn number(out: &mut [u8; 4096], at: usize, n: u64) -> usize
+    requires { ⌜ at ≤ 4076 ⌝ }
+    ensures { λ r. ⌜ r ≤ at + 20 ⌝ }
+{
+    let mut digits = [0u8; 20];
+    let k = io::decimal(n, &mut digits);
+    spell(out, at, &digits, k)
+}
+
+// `frame TYPE LENGTH` or `refused N`, at `at`.
+fn show(out: &mut [u8; 4096], at: usize, e: Event) -> usize
+    requires { ⌜ at ≤ 4000 ⌝ }
+    ensures { λ r. ⌜ r ≤ 4096 ⌝ }
+{
+    match e {
+        Event::Nothing => at,
+        Event::Frame {
+            major: _,
+            minor: _,
+            wrapper,
+            len,
+        } => {
+            let a = text(out, at, b"frame ");
+            let b = number(out, a, wrapper as u64);
+            let c = put(out, b, b' ');
+            let d = number(out, c, len as u64);
+            put(out, d, b'\n')
+        }
+        Event::Refused(n) => {
+            let a = text(out, at, b"refused ");
+            let b = number(out, a, n as u64);
+            put(out, b, b'\n')
+        }
+    }
+}
+
+// A buffer that is nearly full is written out.
+fn flushed(out: &[u8; 4096], at: usize) -> usize
+    requires { ⌜ at ≤ 4096 ⌝ }
+    ensures { λ r. ⌜ r ≤ 4000 ⌝ }
+{
+    if at <= 4000 {
+        return at;
+    }
+    write_out(out, at);
+    0
+}
+
+fn write_out(out: &[u8], n: usize)
+    requires { ⌜ n ≤ length (now out) ⌝ }
+{
+    io::write_all(STDOUT_FILENO, &out[..n]);
+}
+
+fn flush(out: &[u8; 4096], n: usize)
+    requires { ⌜ n ≤ 4096 ⌝ }
+{
+    write_out(out, n);
+}
+
+// All of a read goes to the receiver, and each event is listed.
+fn list_read(r: Receiver, s: &[u8]) -> Receiver {
+    let mut now = r;
+    let mut out = [0u8; 4096];
+    let mut at = 0;
+    let mut i = 0;
+    while i < s.len() {
+        let f = now.feed(s, i);
+        let e = f.event;
+        let full = show(&mut out, at, e);
+        at = flushed(&out, full);
+        let after = f.receiver;
+        now = after;
+        i = f.used;
+    }
+    flush(&out, at);
+    now
+}
+
+// The receiver after a read, and whether there may be another.
+pub struct Turn {
+    pub receiver: Receiver,
+    pub more: bool,
+}
+
+// One read, wherever it is cut.
+fn read_some(r: Receiver) -> Turn {
+    let mut buf = io::large_buffer();
+    let got = libc::read(STDIN_FILENO, &mut buf);
+    if got <= 0 {
+        return Turn {
+            receiver: r,
+            more: false,
+        };
+    }
+    let n = io::count(got, &buf);
+    let receiver = list_read(r, &buf[..n]);
+    Turn {
+        receiver,
+        more: true,
+    }
+}
+
+// A proved loop has to end, and nothing says that the input does: the turns are counted down, from a number that no run uses up.
+fn list_all() {
+    let mut now = line::fresh();
+    let mut turns = u64::MAX;
+    while turns > 0 {
+        let t = read_some(now);
+        if !t.more {
+            return;
+        }
+        let after = t.receiver;
+        now = after;
+        turns -= 1;
+    }
+}
+
+fn main() {
+    list_all();
+    io::write_all(STDOUT_FILENO, b"end\n");
+}
