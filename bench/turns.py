@@ -2,6 +2,7 @@
 
 CPU time (user and system) of each run; the least of all rounds, and the median over the rounds of the ratio within a round."""
 import os
+import resource
 import statistics
 import subprocess
 import sys
@@ -11,10 +12,10 @@ BYTES = 20_000_000
 
 def timed(program, capture, out):
     with open(capture, "rb") as source, open(out, "wb") as sink:
-        before = os.times()
+        before = resource.getrusage(resource.RUSAGE_CHILDREN)
         subprocess.run([program], stdin=source, stdout=sink, check=True)
-        after = os.times()
-    return after.children_user + after.children_system - before.children_user - before.children_system
+        after = resource.getrusage(resource.RUSAGE_CHILDREN)
+    return after.ru_utime + after.ru_stime - before.ru_utime - before.ru_stime
 
 
 def main():

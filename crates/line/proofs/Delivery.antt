@@ -18,7 +18,7 @@ use Rattle.frame.specs.Image.{image, body, covered, escape, escapeByte, isMark}
 use Rattle.line.specs.Receive.{stepOf, busy, finished, reading, resting, holding, idle, goes, framePayload, freshReceiver}
 use Rattle.line.specs.Moves.{moveOf, inFrameMove, unescapedMove, takenMove, storedMove, sizedMove, keep, acted, storeAfter}
 use Rattle.line.specs.Line.{Seen, refusal, frame, seen, hear, run, after, Sent, lineOf, framesOf, NoStart, Sendable}
-use Rattle.line.proofs.Moves.{step-moves}
+use Rattle.line.proofs.Moves.{step-moves, move-plain, move-mark, move-3E, move-1C}
 use Rattle.line.specs.declared.Progress.{Progress}
 use Rattle.line.specs.declared.Action.{Action}
 use Rattle.line.specs.declared.Action.the-variants.{Keep, Put, Finish, Refuse}
@@ -37,26 +37,6 @@ unfolding run
 run-move r b rest m e = ap (λ (t : Step). hear t (run rest)) (step-moves r b) ∙ ap (heard rest (r .store)) e
 
 module _ (low got size : ℕ) (h5 : 5 ≤ size) (h512 : size ≤ 512) (hg : got < size + 2) where
-  reading-busy : (e : Bool) → busy (reading e low got size) ≡ true
-  unfolding busy
-  reading-busy e = simp (le-leb _ _ h5, le-leb _ _ h512, lt-ltb _ _ hg)
-
-  move-plain : (v : ℕ) → (v ≡ 0x7E → ⊥) → (v ≡ 0x5C → ⊥) → moveOf (reading false low got size) v ≡ takenMove (reading false low got size) v
-  unfolding moveOf inFrameMove
-  move-plain v p q = simp (ne-eqb _ _ p, reading-busy false, ne-eqb _ _ q)
-
-  move-mark : moveOf (reading false low got size) 0x5C ≡ keep (reading true low got size)
-  unfolding moveOf inFrameMove
-  move-mark = simp (reading-busy false)
-
-  move-3E : moveOf (reading true low got size) 0x3E ≡ takenMove (reading false low got size) 0x7E
-  unfolding moveOf inFrameMove unescapedMove takenMove
-  move-3E = simp (reading-busy true)
-
-  move-1C : moveOf (reading true low got size) 0x1C ≡ takenMove (reading false low got size) 0x5C
-  unfolding moveOf inFrameMove unescapedMove takenMove
-  move-1C = simp (reading-busy true)
-
   -- one byte, escaped where it is a mark, is taken as it is
   byte : (s : List ℕ) (v : ℕ) (rest : List ℕ)
       → run (escapeByte v ++ rest) (holding (reading false low got size) s) ≡ heard rest s (takenMove (reading false low got size) v)
@@ -72,11 +52,11 @@ module _ (low got size : ℕ) (h5 : 5 ≤ size) (h512 : size ≤ 512) (hg : got 
       go : (x y : Bool) → eqb v 0x7E ≡ x → eqb v 0x5C ≡ y → Claim v (out (x || y) v)
       go true y p q =
           subst (λ (w : ℕ). Claim w (out true w)) (sym (eqb-true _ _ p))
-          (run-move _ 0x5C (0x3E ∷ rest) _ move-mark ∙ run-move _ 0x3E rest _ move-3E)
+          (run-move _ 0x5C (0x3E ∷ rest) _ (move-mark low got size h5 h512 hg) ∙ run-move _ 0x3E rest _ (move-3E low got size h5 h512 hg))
       go false true p q =
           subst (λ (w : ℕ). Claim w (out true w)) (sym (eqb-true _ _ q))
-          (run-move _ 0x5C (0x1C ∷ rest) _ move-mark ∙ run-move _ 0x1C rest _ move-1C)
-      go false false p q = run-move _ v rest _ (move-plain v (eqb-false _ _ p) (eqb-false _ _ q))
+          (run-move _ 0x5C (0x1C ∷ rest) _ (move-mark low got size h5 h512 hg) ∙ run-move _ 0x1C rest _ (move-1C low got size h5 h512 hg))
+      go false false p q = run-move _ v rest _ (move-plain low got size h5 h512 hg v (eqb-false _ _ p) (eqb-false _ _ q))
 
 -- the bytes of a body, up to its last, go into the store from place k on
 taken-last : (n g k v : ℕ) → g ≡ k + 2 → g ≡ n + 1 → takenMove (reading false 0 g n) v ≡ record { progress = resting; action = Finish k v n }

@@ -7,14 +7,14 @@ use native.Mathlib.Numerals.{add-one}
 use native.Mathlib.Omega.{arith}
 use lib.ListN.{length, drop, getD, set, drop-of-length-le}
 use lib.Seq.{drop-cons, drop-drop}
-use borrow.Author.Tests.{ne-eqb, le-leb, lt-ltb}
+use borrow.Author.Tests.{ne-eqb}
 use Rattle.wire.specs.Choice.{pick}
 use Rattle.wire.proofs.Choice.{true-false}
 use Rattle.line.specs.Receive.{busy, reading, holding, stepOf}
-use Rattle.line.specs.Moves.{moveOf, inFrameMove, takenMove, storedMove, keep, storeAfter, eventOf}
+use Rattle.line.specs.Moves.{moveOf, takenMove, storedMove, keep, storeAfter, eventOf}
 use Rattle.line.specs.Feed.{fed, silent, Passes}
 use Rattle.line.specs.Line.{Seen, seen, run}
-use Rattle.line.proofs.Moves.{busy-inside, stepped}
+use Rattle.line.proofs.Moves.{busy-inside, stepped, move-plain, move-mark}
 use Rattle.line.specs.declared.Action.the-variants.{Put}
 use Rattle.line.specs.declared.Progress.{Progress}
 use Rattle.line.specs.declared.Move.{Move}
@@ -47,29 +47,48 @@ pub feed-end : (s : List ℕ) (i : ℕ) (r : Receiver) → length s ≤ i → fe
 unfolding fed
 feed-end s i r h = ap (λ (l : List ℕ). fed i l r) (drop-of-length-le s h)
 
--- a plain byte of a frame that is not its last
-move-plain : (low got size b : ℕ) → (b ≡ 0x7E → ⊥) → (b ≡ 0x5C → ⊥) → 2 ≤ got → 5 ≤ size → size ≤ 512 → got ≤ size
-    → record { progress = reading false low (got + 1) size; action = Put (got - 2) b } ≡ moveOf (reading false low got size) b
-unfolding moveOf busy inFrameMove takenMove storedMove
-move-plain low got size b p q h2 h5 h512 hg =
-    let g : got < size + 2 = omega arith in
-    let x : got ≡ 0 → ⊥ = omega arith in
-    let y : got ≡ 1 → ⊥ = omega arith in
-    let z : got ≡ size + 1 → ⊥ = omega arith in
-    simp (ne-eqb _ _ p, le-leb _ _ h5, le-leb _ _ h512, lt-ltb _ _ g, ne-eqb _ _ q, ne-eqb _ _ x, ne-eqb _ _ y, ne-eqb _ _ z)
+-- ---- a byte of a frame behind its size that is not the last
+module _ (low got size : ℕ) (h2 : 2 ≤ got) (h5 : 5 ≤ size) (h512 : size ≤ 512) (hg : got ≤ size) where
+  -- the move that puts it into the store
+  abbrev puts : ℕ → Move
+  puts v = record { progress = reading false low (got + 1) size; action = Put (got - 2) v }
 
-pub plain-next : (s st : List ℕ) (i low got size : ℕ) {t : Fed} → i < length s
-    → (getD s i 0 ≡ 0x7E → ⊥) → (getD s i 0 ≡ 0x5C → ⊥) → 2 ≤ got → 5 ≤ size → size ≤ 512 → got ≤ size
-    → t ≡ fed i (drop i s) (holding (reading false low got size) st)
-    → t ≡ fed (i + 1) (drop (i + 1) s) (holding (reading false low (got + 1) size) (set st (got - 2) (getD s i 0)))
-plain-next s st i low got size h p q h2 h5 h512 hg e =
-    let b : ℕ = getD s i 0 in
-    e ∙ feed-next s i (holding (reading false low got size) st)
-    (record { receiver = holding (reading false low (got + 1) size) (set st (got - 2) b); event = Nothing }) h
-    (stepped (reading false low got size) b st (record { progress = reading false low (got + 1) size; action = Put (got - 2) b })
-    (set st (got - 2) b) Nothing (move-plain low got size b p q h2 h5 h512 hg) refl refl) refl
+  counted : got < size + 2
+  counted = omega arith
 
--- a head that is reading a frame, and is not after 5C
+  taken-puts : (e : Bool) (v : ℕ) → takenMove (reading e low got size) v ≡ puts v
+  unfolding takenMove storedMove
+  taken-puts e v =
+      let x : got ≡ 0 → ⊥ = omega arith in
+      let y : got ≡ 1 → ⊥ = omega arith in
+      let z : got ≡ size + 1 → ⊥ = omega arith in
+      simp (ne-eqb _ _ x, ne-eqb _ _ y, ne-eqb _ _ z)
+
+  -- at a place where a move is known
+  moved : (s st : List ℕ) (i : ℕ) (p : Progress) (m : Move) → i < length s → m ≡ moveOf p (getD s i 0) → eventOf (m .action) (storeAfter (m .action) st) ≡ Nothing
+      → fed i (drop i s) (holding p st) ≡ fed (i + 1) (drop (i + 1) s) (holding (m .progress) (storeAfter (m .action) st))
+  moved s st i p m below e q =
+      feed-next s i (holding p st) (record { receiver = holding (m .progress) (storeAfter (m .action) st); event = Nothing }) below
+      (stepped p (getD s i 0) st m (storeAfter (m .action) st) Nothing e refl (sym q)) refl
+
+  pub plain-next : (s st : List ℕ) (i : ℕ) → i < length s → (getD s i 0 ≡ 0x7E → ⊥) → (getD s i 0 ≡ 0x5C → ⊥)
+      → fed i (drop i s) (holding (reading false low got size) st)
+      ≡ fed (i + 1) (drop (i + 1) s) (holding (reading false low (got + 1) size) (set st (got - 2) (getD s i 0)))
+  plain-next s st i below p q =
+      moved s st i (reading false low got size) (puts (getD s i 0)) below
+      (sym (move-plain low got size h5 h512 counted (getD s i 0) p q ∙ taken-puts false (getD s i 0))) refl
+
+  pub escaped-next : (s st : List ℕ) (i v : ℕ) → i + 1 < length s → getD s i 0 ≡ 0x5C
+      → moveOf (reading true low got size) (getD s (i + 1) 0) ≡ takenMove (reading false low got size) v
+      → fed i (drop i s) (holding (reading false low got size) st)
+      ≡ fed (i + 2) (drop (i + 2) s) (holding (reading false low (got + 1) size) (set st (got - 2) v))
+  escaped-next s st i v below e m =
+      let k : i + 1 + 1 ≡ i + 2 = omega arith in
+      moved s st i (reading false low got size) (keep (reading true low got size)) (omega arith) (sym (ap (moveOf (reading false low got size)) e ∙ move-mark low got size h5 h512 counted)) refl
+      ∙ moved s st (i + 1) (reading true low got size) (puts v) below (sym (m ∙ taken-puts false v)) refl
+      ∙ ap (λ (n : ℕ). fed n (drop n s) (holding (reading false low (got + 1) size) (set st (got - 2) v))) k
+
+-- progress inside a frame that is not after 5C
 pub skipped : (n : ℕ) (l st : List ℕ) (h : Progress) {f : Fed} → busy h ≡ true → h .escaped ≡ false
     → fed n l (holding (reading false (h .low) (h .got) (h .size)) st) ≡ f → fed n l (holding h st) ≡ f
 skipped n l st h t e q =
@@ -160,3 +179,8 @@ pub advances : (s : List ℕ) (from : ℕ) (r : Receiver) (f : Fed) → f ≡ fe
 advances s from r f e h =
     subst (λ (x : Fed). from < x .used) (sym (e ∙ ap (λ (l : List ℕ). fed from l r) (drop-cons s from 0 h)))
     (used-more from (getD s from 0) (drop (suc from) s) r)
+
+-- The same of what `advance` hands back.
+pub advances-to : (s : List ℕ) (from used : ℕ) (r r′ : Receiver) (e : Event) → record { receiver = r′; event = e; used = used } ≡ fed from (drop from s) r
+    → from < length s → from < used
+advances-to s from used r r′ e h below = advances s from r (record { receiver = r′; event = e; used = used }) h below

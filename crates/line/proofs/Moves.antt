@@ -5,11 +5,11 @@ use mathlib.Core.Bool.{Bool, true, false, _&&_}
 use Prim.Native.Nat.{ℕ, _+_, _*_, _≤_, _<_}
 use native.Mathlib.Omega.{arith}
 use lib.Dec.{leb, ltb, eqb}
-use borrow.Author.Tests.{leb-true, ltb-true, eqb-true, eqb-false}
+use borrow.Author.Tests.{leb-true, ltb-true, eqb-true, eqb-false, ne-eqb, le-leb, lt-ltb}
 use Rattle.wire.specs.Choice.{pick}
 use Rattle.wire.proofs.Choice.{pick-all, and-holds}
 use Rattle.line.specs.Receive.{within, busy, sized, stored, taken, unescaped, inFrame, stepOf, reading, holding, goes}
-use Rattle.line.specs.Moves.{sizedMove, storedMove, takenMove, unescapedMove, inFrameMove, moveOf, Fine, acted, storeAfter, eventOf}
+use Rattle.line.specs.Moves.{sizedMove, storedMove, takenMove, unescapedMove, inFrameMove, moveOf, keep, Fine, acted, storeAfter, eventOf}
 use Rattle.line.specs.declared.Action.the-variants.{Keep, Refuse}
 use Rattle.line.specs.declared.Progress.{Progress}
 use Rattle.line.specs.declared.Move.{Move}
@@ -115,3 +115,25 @@ stepped p b s m l e h q w =
     ap₂ (λ (x : List ℕ) (y : Event). record { receiver = holding (m .progress) x; event = y }) q w
     ∙ ap (λ (x : Move). acted x s) h
     ∙ sym (step-moves (holding p s) b)
+
+-- ---- moves inside a frame
+module _ (low got size : ℕ) (h5 : 5 ≤ size) (h512 : size ≤ 512) (hg : got < size + 2) where
+  reading-busy : (e : Bool) → busy (reading e low got size) ≡ true
+  unfolding busy
+  reading-busy e = simp (le-leb _ _ h5, le-leb _ _ h512, lt-ltb _ _ hg)
+
+  pub move-plain : (v : ℕ) → (v ≡ 0x7E → ⊥) → (v ≡ 0x5C → ⊥) → moveOf (reading false low got size) v ≡ takenMove (reading false low got size) v
+  unfolding moveOf inFrameMove
+  move-plain v p q = simp (ne-eqb _ _ p, reading-busy false, ne-eqb _ _ q)
+
+  pub move-mark : moveOf (reading false low got size) 0x5C ≡ keep (reading true low got size)
+  unfolding moveOf inFrameMove
+  move-mark = simp (reading-busy false)
+
+  pub move-3E : moveOf (reading true low got size) 0x3E ≡ takenMove (reading false low got size) 0x7E
+  unfolding moveOf inFrameMove unescapedMove takenMove
+  move-3E = simp (reading-busy true)
+
+  pub move-1C : moveOf (reading true low got size) 0x1C ≡ takenMove (reading false low got size) 0x5C
+  unfolding moveOf inFrameMove unescapedMove takenMove
+  move-1C = simp (reading-busy true)

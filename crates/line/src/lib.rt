@@ -345,13 +345,52 @@ fn silent(e: Event) -> bool
     }
 }
 
+// How far a run of bytes went that changed nothing but the store and the count.
 pub struct Ran {
     pub progress: Progress,
     pub at: usize,
 }
 
-// Plain bytes of a frame, up to its last byte or a mark, go into the store.
-fn plain(store: &mut [u8; 512], low: u8, had: usize, size: usize, s: &[u8], from: usize) -> Ran
+// An unescaped byte and how many bytes it was on the line; 0 for a byte that is left to the step.
+pub struct Unescaped {
+    pub byte: u8,
+    pub width: usize,
+}
+
+// The unescaped byte that stands at a place of a frame.
+fn unescape_at(s: &[u8], i: usize) -> Unescaped
+    requires { ⌜ i < length (now s) ⌝ }
+    ensures { λ u. ⌜ feeding.Brings (now (s .entry)) i (u .width) (u .byte) ⌝ }
+{
+    let b = s[i];
+    if b == 0x7E {
+        return Unescaped { byte: 0, width: 0 };
+    }
+    if b != 0x5C {
+        return Unescaped { byte: b, width: 1 };
+    }
+    let j = i + 1;
+    if s.len() <= j {
+        return Unescaped { byte: 0, width: 0 };
+    }
+    let e = s[j];
+    if e == 0x3E {
+        return Unescaped {
+            byte: 0x7E,
+            width: 2,
+        };
+    }
+    if e == 0x1C {
+        return Unescaped {
+            byte: 0x5C,
+            width: 2,
+        };
+    }
+    Unescaped { byte: 0, width: 0 }
+}
+
+// Bytes of a frame behind its size, up to its last, go into the store.
+fn body(store: &mut [u8; 512], low: u8, had: usize, size: usize, s: &[u8], from: usize) -> Ran
     requires { ⌜ (2 ≤ had) × (5 ≤ size) × (size ≤ 512) × (had < size + 2) ⌝ }
     ensures { λ p. ⌜ (from ≤ p .at)
         × (feeding.fed from (drop from (now (s .entry))) (specs.holding (specs.reading false low had size) (now (store .entry)))
@@ -360,20 +399,8 @@ fn plain(store: &mut [u8; 512], low: u8, had: usize, size: usize, s: &[u8], from
     let mut got = had;
     let mut i = from;
     while i < s.len() {
-        let b = s[i];
-        if b == 0x7E {
-            return Ran {
-                progress: Progress {
-                    inside: true,
-                    escaped: false,
-                    low,
-                    got,
-                    size,
-                },
-                at: i,
-            };
-        }
-        if b == 0x5C {
+        let u = unescape_at(s, i);
+        if u.width == 0 {
             return Ran {
                 progress: Progress {
                     inside: true,
@@ -398,9 +425,9 @@ fn plain(store: &mut [u8; 512], low: u8, had: usize, size: usize, s: &[u8], from
             };
         }
         let at = got - 2;
-        store[at] = b;
+        store[at] = u.byte;
         got += 1;
-        i += 1;
+        i += u.width;
     }
     Ran {
         progress: Progress {
@@ -428,7 +455,7 @@ fn noise(s: &[u8], from: usize) -> usize
     i
 }
 
-// As many bytes as change nothing but the store and the count: noise, and plain bytes of a frame.
+// As many bytes as change nothing but the store and the count: noise, and bytes of a frame.
 fn skip(progress: Progress, store: &mut [u8; 512], s: &[u8], from: usize) -> Ran
     ensures { λ p. ⌜ (from ≤ p .at)
         × (feeding.fed from (drop from (now (s .entry))) (specs.holding progress (now (store .entry)))
@@ -446,39 +473,61 @@ fn skip(progress: Progress, store: &mut [u8; 512], s: &[u8], from: usize) -> Ran
     if progress.got < 2 {
         return Ran { progress, at: from };
     }
-    plain(store, progress.low, progress.got, progress.size, s, from)
+    body(store, progress.low, progress.got, progress.size, s, from)
+}
+
+// The progress after some bytes, the event that they ended with, and the place behind them.
+pub struct Advanced {
+    pub progress: Progress,
+    pub event: Event,
+    pub used: usize,
+}
+
+// The bytes of `s` from `from` on, up to the first event or to the end, into a store that is lent.
+pub fn advance(start: Progress, store: &mut [u8; 512], s: &[u8], from: usize) -> Advanced
+    ensures { λ a. ⌜ feeding.fedTo (a .progress) (now (store .exit)) (a .event) (a .used) ≡ feeding.fed from (drop from (now (s .entry))) (specs.holding start (now (store .entry))) ⌝ }
+{
+    let mut progress = start;
+    let mut i = from;
+    while i < s.len() {
+        let m = progress.step(s[i]);
+        let action = m.action;
+        let event = acted(store, action);
+        let next = m.progress;
+        i += 1;
+        if !silent(event) {
+            return Advanced {
+                progress: next,
+                event,
+                used: i,
+            };
+        }
+        let ran = skip(next, store, s, i);
+        let after = ran.progress;
+        progress = after;
+        i = ran.at;
+    }
+    Advanced {
+        progress,
+        event: Event::Nothing,
+        used: i,
+    }
 }
 
 impl Receiver {
-    // The bytes of `s` from `from` on, up to the first event or to the end.
+    // The same for a record by value.
     pub fn feed(self, s: &[u8], from: usize) -> Fed
         ensures { λ f. ⌜ f ≡ feeding.fed from (drop from (now (s .entry))) self ⌝ }
     {
-        let mut progress = self.progress;
+        let start = self.progress;
         let mut store = self.store;
-        let mut i = from;
-        while i < s.len() {
-            let m = progress.step(s[i]);
-            let action = m.action;
-            let event = acted(&mut store, action);
-            let next = m.progress;
-            i += 1;
-            if !silent(event) {
-                return Fed {
-                    receiver: Receiver { progress: next, store },
-                    event,
-                    used: i,
-                };
-            }
-            let ran = skip(next, &mut store, s, i);
-            let after = ran.progress;
-            progress = after;
-            i = ran.at;
-        }
+        let a = advance(start, &mut store, s, from);
+        let progress = a.progress;
+        let event = a.event;
         Fed {
             receiver: Receiver { progress, store },
-            event: Event::Nothing,
-            used: i,
+            event,
+            used: a.used,
         }
     }
 }

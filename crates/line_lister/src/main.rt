@@ -113,21 +113,22 @@ fn flush(out: &[u8; 4096], n: usize)
 
 // All of a read goes to the receiver, and each event is listed.
 fn list_read(r: Receiver, s: &[u8]) -> Receiver {
-    let mut now = r;
+    let mut progress = r.progress;
+    let mut store = r.store;
     let mut out = [0u8; 4096];
     let mut at = 0;
     let mut i = 0;
     while i < s.len() {
-        let f = now.feed(s, i);
-        let e = f.event;
+        let a = line::advance(progress, &mut store, s, i);
+        let e = a.event;
         let full = show(&mut out, at, e);
         at = flushed(&out, full);
-        let after = f.receiver;
-        now = after;
-        i = f.used;
+        let after = a.progress;
+        progress = after;
+        i = a.used;
     }
     flush(&out, at);
-    now
+    Receiver { progress, store }
 }
 
 // The receiver after a read, and whether there may be another.

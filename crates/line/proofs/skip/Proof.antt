@@ -11,8 +11,8 @@ returns c =
     let e = c .before .before in
     (c .noise .ensures .0, c .noise .ensures .1 _ _ (sym (e .busy .ensures) ∙ not-true (e .busy .result) (c .before .if1 .taken)))
 
-plain-requires : tie.Need-plain-requires
-plain-requires c κs =
+body-requires : tie.Need-body-requires
+body-requires c κs =
     let e = c .before .before .before .before in
     let k = busy-counts _ (sym (e .before .busy .ensures) ∙ not-false (e .before .busy .result) (e .if1 .left)) in
     (c .before .if3 .left, k .0, k .1, k .2)
@@ -21,9 +21,9 @@ returns-4 : tie.Need-returns-4
 returns-4 c =
     let e = c .before .before .before .before in
     let t = sym (e .before .before .busy .ensures) ∙ not-false (e .before .before .busy .result) (e .before .if1 .left) in
-    (c .plain .ensures .0, skipped _ _ _ _ t (e .if2 .left) (c .plain .ensures .1))
+    (c .body .ensures .0, skipped _ _ _ _ t (e .if2 .left) (c .body .ensures .1))
 
 pub skip-spec : {M : Type 1} → statement M
 skip-spec =
     tie.close
-    (tie.spec (λ c κs. search needs) (λ c κs. search needs) returns (λ c. search needs) (λ c. search needs) plain-requires returns-4)
+    (tie.spec (λ c κs. search needs) (λ c κs. search needs) returns (λ c. search needs) (λ c. search needs) body-requires returns-4)

@@ -1,65 +1,7 @@
-use Prim.Native.Nat.{_-_}
-use mathlib.Core.Path.{_≡_, refl, sym, _∙_}
-use native.Mathlib.Omega.{arith}
-use lib.ListN.{length, drop}
-use borrow.Author.Tests.{not-true, not-false}
-use Rattle.line.specs.Receive.{holding}
-use Rattle.line.specs.Feed.{fed}
-use Rattle.line.proofs.Moves.{fine}
-use Rattle.line.proofs.Feeding.{feed-goes, feed-halts, feed-end}
+-- `Receiver::feed` meets its contract. Assumes nothing.
+use borrow.Author.Needs.{needs}
 use Rattle.line.proofs.Receiver.feed.Statement.{statement}
 use Rattle.line.proofs.Receiver.feed.Tie as tie
 
-abbrev Inv-loop : tie.InvT-loop
-Inv-loop s from head₀ store₀ i₀ head store i = fed i (drop i s) (holding head store) ≡ fed from (drop from s) (holding head₀ store₀)
-
-abbrev μ-loop : tie.MeasureT-loop
-μ-loop s from head₀ store₀ i₀ head store i = length s - i
-
-loop-holds : tie.Need-loop-holds Inv-loop μ-loop
-loop-holds c = refl
-
-acted-requires : tie.Need-acted-requires Inv-loop μ-loop
-acted-requires c κs = fine _ _ _ (c .before .step .ensures)
-
-returns : tie.Need-returns Inv-loop μ-loop
-returns c =
-    let a = c .before .before .before in
-    let m = a .before .before in
-    let l = m .before .before .before in
-    feed-halts _ _ _ _ _ _ _ _ (m .before .before .loop-test .taken) (m .step .ensures) (a .acted .ensures .0) (a .acted .ensures .1) (l .loop .inv)
-    (sym (c .before .silent .ensures) ∙ not-true (c .before .silent .result) (c .if1 .taken))
-
-loop-less : tie.Need-loop-less Inv-loop μ-loop
-loop-less c = omega (arith, c .before .skip .ensures .0)
-
-loop-again : tie.Need-loop-again Inv-loop μ-loop
-loop-again c =
-    let d = c .before .before .before in
-    let a = d .before .before .before in
-    let m = a .before .before in
-    let l = m .before .before .before in
-    sym (c .before .skip .ensures .1)
-    ∙ feed-goes _ _ _ _ _ _ _ _ (m .before .before .loop-test .taken) (m .step .ensures) (a .acted .ensures .0) (a .acted .ensures .1) (l .loop .inv)
-    (sym (d .before .silent .ensures) ∙ not-false (d .before .silent .result) (d .if1 .left))
-
-returns-2 : tie.Need-returns-2 Inv-loop μ-loop
-returns-2 c = sym (feed-end _ _ _ (c .loop-test .left)) ∙ c .before .loop .inv
-
 pub feed-spec : {M : Type 1} → statement M
-feed-spec =
-    tie.close
-    (tie.spec
-    Inv-loop
-    μ-loop
-    loop-holds
-    (λ c. omega arith)
-    (λ c κs. tt)
-    acted-requires
-    (λ c. omega arith)
-    (λ c κs. tt)
-    returns
-    (λ c κs. tt)
-    loop-less
-    loop-again
-    returns-2)
+feed-spec = tie.close (tie.spec (λ c κs. search needs) (λ c. c .before .advance .ensures))
