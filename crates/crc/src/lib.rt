@@ -44,7 +44,11 @@ fn over(once: &[u16; 256], twice: &[u16; 256], from: u16, s: &[u8]) -> u16
         c = after_two(once, twice, c, s[i], s[j]);
         i += 2;
     }
-    if i < s.len() { after_one(once, c, s[i]) } else { c }
+    if i < s.len() {
+        after_one(once, c, s[i])
+    } else {
+        c
+    }
 }
 
 // The CRC of a slice, taken on from `from`. The tables are made once a call: a constant that is read in a loop is built at each turn.

@@ -9,7 +9,6 @@ ghost use Rattle.wire.specs.Writing.{Stores, Writes, noRoom};
 ghost use Rattle.crc.specs.Crc.{crcOf};
 ghost use Rattle.frame.specs.Image.{isMark, escapeByte, escape, covered, image};
 ghost use Rattle.frame.specs.Writer.{badFrame, headerOf, sent};
-
 use wire::Written;
 
 // The start byte or the escape byte.

@@ -19,13 +19,16 @@ use Rattle.line.specs.declared.Event.the-variants.{Nothing, Refused}
 use Rattle.line.specs.declared.Step.{Step}
 
 -- ---- the counts of a record that is inside a frame
+pub within-limits : (size : ℕ) → within size ≡ true → (5 ≤ size) × (size ≤ 512)
+within-limits size t = let l = and-holds (leb 5 size) (leb size 512) t in (leb-true _ _ (l .0), leb-true _ _ (l .1))
+
 pub busy-counts : (p : Progress) → busy p ≡ true → (5 ≤ p .size) × (p .size ≤ 512) × (p .got < p .size + 2)
 unfolding busy
 busy-counts p t =
     let q = and-holds (p .inside) (within (p .size) && ltb (p .got) (p .size + 2)) t .1 in
     let w = and-holds (within (p .size)) (ltb (p .got) (p .size + 2)) q in
-    let l = and-holds (leb 5 (p .size)) (leb (p .size) 512) (w .0) in
-    (leb-true _ _ (l .0), leb-true _ _ (l .1), ltb-true _ _ (w .1))
+    let l = within-limits (p .size) (w .0) in
+    (l .0, l .1, ltb-true _ _ (w .1))
 
 pub busy-inside : (p : Progress) → busy p ≡ true → p .inside ≡ true
 unfolding busy

@@ -6,7 +6,6 @@ ghost use lib.ListN.{length, take, drop};
 ghost use Rattle.line.specs.Receive as specs;
 ghost use Rattle.line.specs.Feed as feeding;
 ghost use Rattle.line.specs.Moves as moves;
-
 use wire::Part;
 
 pub struct Progress {
@@ -28,6 +27,7 @@ pub struct Receiver {
     pub store: [u8; 512],
 }
 
+// What a byte brings: nothing, a frame whose bytes stand in the store, or a refusal's number.
 pub enum Event {
     Nothing,
     Frame {
@@ -39,6 +39,7 @@ pub enum Event {
     Refused(u8),
 }
 
+// The record after a byte, and its event.
 pub struct Step {
     pub receiver: Receiver,
     pub event: Event,
@@ -52,11 +53,13 @@ pub enum Action {
     Refuse(u8),
 }
 
+// What a byte does to the progress, and what it asks of the store.
 pub struct Move {
     pub progress: Progress,
     pub action: Action,
 }
 
+// At rest, with a store of zeros.
 pub fn fresh() -> Receiver
     ensures { λ r. ⌜ r ≡ specs.freshReceiver ⌝ }
 {
@@ -72,6 +75,7 @@ pub fn fresh() -> Receiver
     }
 }
 
+// A refusal that leaves the receiver idle.
 fn refuse(n: u8) -> Move
     ensures { λ m. ⌜ m ≡ moves.refuse n ⌝ }
 {
@@ -87,26 +91,33 @@ fn refuse(n: u8) -> Move
     }
 }
 
+// A size that a frame may have.
+fn within(size: usize) -> bool
+    ensures { λ r. ⌜ r ≡ specs.within size ⌝ }
+{
+    if size < 5 {
+        return false;
+    }
+    size <= 512
+}
+
 // The size is complete.
 fn sized(size: usize) -> Move
     ensures { λ m. ⌜ m ≡ moves.sizedMove size ⌝ }
 {
-    if size < 5 {
-        return refuse(3);
+    if within(size) {
+        return Move {
+            progress: Progress {
+                inside: true,
+                escaped: false,
+                low: 0,
+                got: 2,
+                size,
+            },
+            action: Action::Keep,
+        };
     }
-    if 512 < size {
-        return refuse(3);
-    }
-    Move {
-        progress: Progress {
-            inside: true,
-            escaped: false,
-            low: 0,
-            got: 2,
-            size,
-        },
-        action: Action::Keep,
-    }
+    refuse(3)
 }
 
 // An unescaped byte after the size.
@@ -147,20 +158,17 @@ fn stored(low: u8, got: usize, size: usize, v: u8) -> Move
 }
 
 impl Progress {
+    // Inside an unfinished frame.
     fn busy(self) -> bool
         ensures { λ b. ⌜ b ≡ specs.busy self ⌝ }
     {
-        if !self.inside {
-            return false;
+        if self.inside {
+            let size = self.size;
+            if within(size) {
+                return self.got < size + 2;
+            }
         }
-        let size = self.size;
-        if size < 5 {
-            return false;
-        }
-        if 512 < size {
-            return false;
-        }
-        self.got < size + 2
+        false
     }
 
     // An unescaped byte.
@@ -258,6 +266,7 @@ impl Progress {
     }
 }
 
+// The first bytes of the store.
 fn front(store: &[u8], n: usize) -> &[u8]
     requires { ⌜ n ≤ length (now store) ⌝ }
     ensures { λ r. ⌜ now r ≡ take n (now (store .entry)) ⌝ }
@@ -324,6 +333,7 @@ impl Receiver {
     }
 }
 
+// The receiver after some bytes, the event that they ended with, and the place behind them.
 pub struct Fed {
     pub receiver: Receiver,
     pub event: Event,
@@ -476,7 +486,7 @@ fn skip(progress: Progress, store: &mut [u8; 512], s: &[u8], from: usize) -> Ran
     body(store, progress.low, progress.got, progress.size, s, from)
 }
 
-// The progress after some bytes, the event that they ended with, and the place behind them.
+// The same without the store.
 pub struct Advanced {
     pub progress: Progress,
     pub event: Event,
@@ -515,7 +525,7 @@ pub fn advance(start: Progress, store: &mut [u8; 512], s: &[u8], from: usize) ->
 }
 
 impl Receiver {
-    // The same for a record by value.
+    // `advance` for a record by value.
     pub fn feed(self, s: &[u8], from: usize) -> Fed
         ensures { λ f. ⌜ f ≡ feeding.fed from (drop from (now (s .entry))) self ⌝ }
     {

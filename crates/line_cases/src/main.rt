@@ -56,7 +56,11 @@ fn code(e: Event) -> u64
             minor,
             wrapper,
             len,
-        } => 1000 + (major as u64) + (minor as u64) * 3 + (wrapper as u64) * 1000 + ((len % 1000) as u64),
+        } => 1000
+            + (major as u64)
+            + (minor as u64) * 3
+            + (wrapper as u64) * 1000
+            + ((len % 1000) as u64),
         Event::Refused(n) => n as u64,
     }
 }
@@ -199,7 +203,10 @@ fn main() {
     list_before_hello(b"size 513", &[0x7E, 1, 2]);
     list_before_hello(b"wrong CRC", &[0x7E, 8, 0, 1, 0, 0, 0, 0, 0, 0xB0, 0x4A]);
     list_before_hello(b"noise", &[0x41, 0, 0xFF, 0x5C, 0x3E]);
-    list_before_hello(b"hello, noise", &[0x7E, 8, 0, 1, 0, 0, 0, 0, 0, 0xB0, 0x4B, 0x5C, 0x41]);
+    list_before_hello(
+        b"hello, noise",
+        &[0x7E, 8, 0, 1, 0, 0, 0, 0, 0, 0xB0, 0x4B, 0x5C, 0x41],
+    );
     list_frame(b"size 5", 0, b"");
     list_frame(b"size 512", 0, &[1; 507]);
     list_frame(b"escapes", 128, &[0x7E, 0x5C, 0x40, 0x3E, 0x1C, 0x7E]);

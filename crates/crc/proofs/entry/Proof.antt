@@ -1,3 +1,4 @@
+-- `entry` meets its contract. Assumes nothing.
 use native.Mathlib.Omega.{arith}
 use lib.Bits.{bitXor, xor-lt}
 use mathlib.Core.Path.{refl}

@@ -3,20 +3,15 @@ use borrow.Author.Tests.{eq-eqb, ne-eqb}
 use Rattle.frame.specs.Writer.{badFrame}
 use Rattle.frame.proofs.bad_frame.Statement.{statement}
 use Rattle.frame.proofs.bad_frame.Tie as tie
-use Rattle.frame.proofs.bad_frame.Reads as reads
-use Rattle.frame.proofs.bad_frame.Lts as lts
 
--- src/lib.rt:132:9
 returns : tie.Need-returns
 unfolding badFrame
 returns c = simp (eq-eqb _ _ (c .if1 .taken))
 
--- src/lib.rt:135:9
 returns-2 : tie.Need-returns-2
 unfolding badFrame
 returns-2 c = simp (ne-eqb _ _ (c .before .if1 .left), eq-eqb _ _ (c .if2 .taken))
 
--- src/lib.rt:128:1
 returns-3 : tie.Need-returns-3
 unfolding badFrame
 returns-3 c = simp (ne-eqb _ _ (c .before .if1 .left), ne-eqb _ _ (c .if2 .left))

@@ -1,3 +1,4 @@
+-- `is_mark` meets its contract. Assumes nothing.
 use borrow.Author.Tests.{eq-eqb, ne-eqb}
 use Rattle.frame.specs.Image.{isMark}
 use Rattle.frame.proofs.is_mark.Statement.{statement}

@@ -1,10 +1,10 @@
+-- `put` meets its contract. Assumes nothing.
 use borrow.Author.Needs.{needs}
 use mathlib.Core.Path.{_≡_, refl, sym, ap, _∙_}
 use native.Mathlib.Omega.{arith}
 use Prim.Native.Nat.{_+_, _-_, _≤_}
 use lib.ListN.{length, drop}
 use Rattle.frame.specs.Image.{escape}
-use Rattle.frame.specs.Image.{escapeByte}
 use lib.Seq.{sets}
 use Rattle.frame.proofs.Escape.{rest-length, rest-none, rest-stored}
 use Rattle.frame.proofs.put.Statement.{statement}

@@ -5,28 +5,18 @@ use Rattle.frame.proofs.Escape.{sent-length, sent-stored}
 use borrow.Author.Needs.{needs}
 use Rattle.frame.proofs.put_frame.Statement.{statement}
 use Rattle.frame.proofs.put_frame.Tie as tie
-use Rattle.frame.proofs.put_frame.Reads as reads
-use Rattle.frame.proofs.put_frame.Lts as lts
-use Rattle.frame.proofs.put.Reads as put-reads
 
--- src/lib.rt:79:5
-slice-write-out : tie.Need-slice-write-out
-slice-write-out c = search needs
-
--- src/lib.rt:80:9
 put-requires : tie.Need-put-requires
 put-requires c κs =
     let a = c .before .before .before .before .before .args in
     simp length-set (omega (arith, sent-length (a .head .now) (a .payload .now) (a .tail .now)))
 
--- src/lib.rt:81:9
 put-requires-2 : tie.Need-put-requires-2
 put-requires-2 c κs =
     let p1 = c .before .before .before in
     let a = p1 .before .before .before .before .before .before .args in
     omega (arith, sent-length (a .head .now) (a .payload .now) (a .tail .now), p1 .put .kept .0, length-set (a .out .now) 0 0x7E)
 
--- src/lib.rt:82:5
 put-requires-3 : tie.Need-put-requires-3
 put-requires-3 c κs =
     let p2 = c .before .before .before in
@@ -34,7 +24,6 @@ put-requires-3 c κs =
     let a = p1 .before .before .before .before .before .before .args in
     omega (arith, sent-length (a .head .now) (a .payload .now) (a .tail .now), p1 .put .kept .0, p2 .put2 .kept .0, length-set (a .out .now) 0 0x7E)
 
--- src/lib.rt:75:1
 same-length : tie.Need-same-length
 same-length c =
     let p3 = c .before .before in
@@ -43,7 +32,6 @@ same-length c =
     let a = p1 .before .before .before .before .before .before .args in
     omega (arith, p1 .put .kept .0, p2 .put2 .kept .0, p3 .put3 .kept .0, length-set (a .out .now) 0 0x7E)
 
--- src/lib.rt:75:1
 returns : tie.Need-returns
 returns c =
     let p3 = c .before .before in
@@ -55,4 +43,4 @@ returns c =
 pub put-frame-spec : {M : Type 1} → statement M
 put-frame-spec =
     tie.close
-    (tie.spec slice-write-out put-requires put-requires-2 put-requires-3 same-length returns)
+    (tie.spec (λ c. search needs) put-requires put-requires-2 put-requires-3 same-length returns)

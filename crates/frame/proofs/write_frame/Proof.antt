@@ -13,18 +13,7 @@ use Rattle.frame.proofs.Escape.{good-length, sent-image}
 use borrow.Author.Needs.{needs}
 use Rattle.frame.proofs.write_frame.Statement.{statement}
 use Rattle.frame.proofs.write_frame.Tie as tie
-use Rattle.frame.proofs.write_frame.Reads as reads
-use Rattle.frame.proofs.write_frame.Lts as lts
-use Rattle.frame.proofs.bad_frame.Reads as bad-frame-reads
-use Rattle.frame.proofs.header.Reads as header-reads
-use Rattle.frame.proofs.send.Reads as send-reads
-use Rattle.frame.proofs.trailer.Reads as trailer-reads
 
--- src/lib.rt:144:8
-bad-frame-requires : tie.Need-bad-frame-requires
-bad-frame-requires c κs = search needs
-
--- src/lib.rt:145:9
 returns : tie.Need-returns
 returns c =
     let a = c .before .before .before .before .args in
@@ -32,34 +21,15 @@ returns c =
     let e : badFrame (a .wrapper) (length p) ≡ true = sym (c .before .bad-frame .ensures) ∙ c .if1 .taken in
     stores-refused 0 (image (a .wrapper) p) (a .out .now) (writerRules (badFrame (a .wrapper) (length p)) (image (a .wrapper) p) (a .out .now)) 16 (rw e)
 
--- src/lib.rt:147:16
 header-requires : tie.Need-header-requires
 header-requires c κs = good-length _ _ (sym (c .before .bad-frame .ensures) ∙ c .if1 .left)
 
--- src/lib.rt:148:16
-trailer-requires : tie.Need-trailer-requires
-trailer-requires c κs = search needs
-
--- src/lib.rt:149:10
-slice-aggregate-send : tie.Need-slice-aggregate-send
-slice-aggregate-send c = search needs
-
--- src/lib.rt:149:26
-slice-aggregate-send-2 : tie.Need-slice-aggregate-send-2
-slice-aggregate-send-2 c = search needs
-
--- src/lib.rt:149:5
 send-requires : tie.Need-send-requires
 send-requires c κs =
     let f = c .before .before .before .before .before .before in
     let l = good-length _ _ (sym (f .bad-frame .ensures) ∙ c .before .before .before .before .before .if1 .left) in
     omega (arith, ap length (c .before .before .before .before .header .ensures), ap length (c .before .before .before .trailer .ensures), l)
 
--- src/lib.rt:141:1
-same-length : tie.Need-same-length
-same-length c = search needs
-
--- src/lib.rt:141:1
 returns-2 : tie.Need-returns-2
 returns-2 c =
     let f = c .before .before .before .before .before .before .before .before .before in
@@ -74,12 +44,12 @@ pub write-frame-spec : {M : Type 1} → statement M
 write-frame-spec =
     tie.close
     (tie.spec
-    bad-frame-requires
+    (λ c κs. search needs)
     returns
     header-requires
-    trailer-requires
-    slice-aggregate-send
-    slice-aggregate-send-2
+    (λ c κs. search needs)
+    (λ c. search needs)
+    (λ c. search needs)
     send-requires
-    same-length
+    (λ c. search needs)
     returns-2)

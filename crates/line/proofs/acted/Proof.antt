@@ -1,3 +1,4 @@
+-- `acted` meets its contract. Assumes nothing.
 use mathlib.Core.Path.{sym, ap, subst, _∙_}
 use Rattle.line.specs.Moves.{Fine, storeAfter, eventOf}
 use Rattle.line.specs.declared.Action.{Action}

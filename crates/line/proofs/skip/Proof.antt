@@ -1,3 +1,4 @@
+-- `skip` meets its contract. Assumes nothing.
 use mathlib.Core.Path.{sym, _∙_}
 use borrow.Author.Tests.{not-true, not-false}
 use Rattle.line.proofs.Moves.{busy-counts}

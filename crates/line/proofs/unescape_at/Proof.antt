@@ -9,54 +9,40 @@ use Rattle.line.proofs.Feeding.{plain-next, escaped-next}
 use borrow.Author.Needs.{needs}
 use Rattle.line.proofs.unescape_at.Statement.{statement}
 use Rattle.line.proofs.unescape_at.Tie as tie
-use Rattle.line.proofs.unescape_at.Reads as reads
-use Rattle.line.proofs.unescape_at.Lts as lts
 
--- src/lib.rt:365:13
-shared-slice-read-b : tie.Need-shared-slice-read-b
-shared-slice-read-b c = search needs
-
--- src/lib.rt:367:9
 returns : tie.Need-returns
 returns c = λ w. absurd (w refl)
 
--- src/lib.rt:370:9
 returns-2 : tie.Need-returns-2
 returns-2 c = λ w.
     let a = c .before .before .before .args in
     (omega arith, omega arith, λ low got size st h2 h5 h512 hg. plain-next low got size h2 h5 h512 hg (a .s .now) st (a .i) (c .before .before .before .pre) (c .before .if1 .left) (c .if2 .taken))
 
--- src/lib.rt:372:13
-add-j : tie.Need-add-j
-add-j c = search needs
-
--- src/lib.rt:374:9
 returns-3 : tie.Need-returns-3
 returns-3 c = λ w. absurd (w refl)
 
--- src/lib.rt:376:13
-shared-slice-read-e : tie.Need-shared-slice-read-e
-shared-slice-read-e c = search needs
-
--- src/lib.rt:378:9
 returns-4 : tie.Need-returns-4
 returns-4 c = λ w.
     let a = c .before .before .before .before .before .before .args in
-    let s = a .s .now in
-    (omega arith, omega arith, λ low got size st h2 h5 h512 hg.
-    escaped-next low got size h2 h5 h512 hg s st (a .i) 0x7E (omega arith) (c .before .before .before .if2 .left)
-    (ap (moveOf (reading true low got size)) (c .if4 .taken) ∙ move-3E low got size h5 h512 (omega arith)))
+    let s = a .s .now in (
+      omega arith,
+      omega arith,
+      λ low got size st h2 h5 h512 hg.
+          escaped-next low got size h2 h5 h512 hg s st (a .i) 0x7E (omega arith) (c .before .before .before .if2 .left)
+          (ap (moveOf (reading true low got size)) (c .if4 .taken) ∙ move-3E low got size h5 h512 (omega arith)),
+    )
 
--- src/lib.rt:384:9
 returns-5 : tie.Need-returns-5
 returns-5 c = λ w.
     let a = c .before .before .before .before .before .before .before .args in
-    let s = a .s .now in
-    (omega arith, omega arith, λ low got size st h2 h5 h512 hg.
-    escaped-next low got size h2 h5 h512 hg s st (a .i) 0x5C (omega arith) (c .before .before .before .before .if2 .left)
-    (ap (moveOf (reading true low got size)) (c .if5 .taken) ∙ move-1C low got size h5 h512 (omega arith)))
+    let s = a .s .now in (
+      omega arith,
+      omega arith,
+      λ low got size st h2 h5 h512 hg.
+          escaped-next low got size h2 h5 h512 hg s st (a .i) 0x5C (omega arith) (c .before .before .before .before .if2 .left)
+          (ap (moveOf (reading true low got size)) (c .if5 .taken) ∙ move-1C low got size h5 h512 (omega arith)),
+    )
 
--- src/lib.rt:361:1
 returns-6 : tie.Need-returns-6
 returns-6 c = λ w. absurd (w refl)
 
@@ -64,12 +50,12 @@ pub unescape-at-spec : {M : Type 1} → statement M
 unescape-at-spec =
     tie.close
     (tie.spec
-    shared-slice-read-b
+    (λ c. search needs)
     returns
     returns-2
-    add-j
+    (λ c. search needs)
     returns-3
-    shared-slice-read-e
+    (λ c. search needs)
     returns-4
     returns-5
     returns-6)

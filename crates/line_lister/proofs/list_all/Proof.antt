@@ -1,3 +1,4 @@
+-- `list_all` meets its contract. Assumes nothing.
 use borrow.Author.Needs.{needs}
 use Rattle.line_lister.proofs.list_all.Statement.{statement}
 use Rattle.line_lister.proofs.list_all.Tie as tie

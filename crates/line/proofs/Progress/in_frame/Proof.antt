@@ -1,3 +1,4 @@
+-- `Progress::in_frame` meets its contract. Assumes nothing.
 use Rattle.line.specs.Moves as moves
 use borrow.Author.Tests.{eq-eqb, ne-eqb}
 use borrow.Author.Needs.{needs}

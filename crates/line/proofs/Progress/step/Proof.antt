@@ -1,3 +1,4 @@
+-- `Progress::step` meets its contract. Assumes nothing.
 use borrow.Author.Tests.{eq-eqb, ne-eqb}
 use mathlib.Core.Path.{sym, _∙_}
 use Rattle.line.proofs.Moves.{busy-counts}

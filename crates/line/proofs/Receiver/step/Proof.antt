@@ -1,3 +1,4 @@
+-- `Receiver::step` meets its contract. Assumes nothing.
 use Rattle.line.proofs.Moves.{fine, stepped}
 use borrow.Author.Needs.{needs}
 use Rattle.line.proofs.Receiver.step.Statement.{statement}
