@@ -1,0 +1,160 @@
+// AES-128 of this repository against a plain Rust one, on the same input, in turns in one run.
+// The plain one has the box as a table and uses no cipher instructions. Run it by `bench/aes/run`.
+use std::hint::black_box;
+use std::time::Instant;
+
+extern "C" {
+    fn cloudgraze_aes_expand_key(key: &[u8; 16], keys: &mut [[u8; 16]; 11]);
+    fn cloudgraze_aes_encrypt_block(keys: &[[u8; 16]; 11], block: &mut [u8; 16]);
+    fn cloudgraze_apply_ctr(key: &[u8; 16], packet_nonce: &[u8; 3], session_nonce: &[u8; 5], src: &[u8; 496], out: &mut [u8; 496]);
+}
+
+mod plain {
+    static BOX: [u8; 256] = include!("box.in");
+
+    fn xtime(b: u8) -> u8 {
+        (b << 1) ^ (if b & 0x80 != 0 { 0x1b } else { 0 })
+    }
+
+    fn add_round_key(s: &mut [u8; 16], k: &[u8; 16]) {
+        for i in 0..16 {
+            s[i] ^= k[i];
+        }
+    }
+
+    fn sub_bytes(s: &mut [u8; 16]) {
+        for b in s.iter_mut() {
+            *b = BOX[*b as usize];
+        }
+    }
+
+    fn shift_rows(s: &mut [u8; 16]) {
+        let t = *s;
+        for c in 0..4 {
+            for r in 0..4 {
+                s[r + 4 * c] = t[r + 4 * ((c + r) % 4)];
+            }
+        }
+    }
+
+    fn mix_columns(s: &mut [u8; 16]) {
+        for c in s.chunks_exact_mut(4) {
+            let (a, b, d, e) = (c[0], c[1], c[2], c[3]);
+            let all = a ^ b ^ d ^ e;
+            c[0] ^= all ^ xtime(a ^ b);
+            c[1] ^= all ^ xtime(b ^ d);
+            c[2] ^= all ^ xtime(d ^ e);
+            c[3] ^= all ^ xtime(e ^ a);
+        }
+    }
+
+    pub fn expand_key(key: &[u8; 16]) -> [[u8; 16]; 11] {
+        let mut keys = [*key; 11];
+        let mut c = 1u8;
+        for n in 1..11 {
+            let k = keys[n - 1];
+            let mut w = [BOX[k[13] as usize] ^ c, BOX[k[14] as usize], BOX[k[15] as usize], BOX[k[12] as usize]];
+            for j in 0..4 {
+                for i in 0..4 {
+                    w[i] ^= k[4 * j + i];
+                    keys[n][4 * j + i] = w[i];
+                }
+            }
+            c = xtime(c);
+        }
+        keys
+    }
+
+    #[inline(never)]
+    pub fn encrypt_block(keys: &[[u8; 16]; 11], block: &mut [u8; 16]) {
+        add_round_key(block, &keys[0]);
+        for k in &keys[1..10] {
+            sub_bytes(block);
+            shift_rows(block);
+            mix_columns(block);
+            add_round_key(block, k);
+        }
+        sub_bytes(block);
+        shift_rows(block);
+        add_round_key(block, &keys[10]);
+    }
+
+    #[inline(never)]
+    pub fn apply_ctr(key: &[u8; 16], packet_nonce: &[u8; 3], session_nonce: &[u8; 5], src: &[u8], out: &mut [u8]) {
+        let keys = expand_key(key);
+        let mut counter = 0u64;
+        for (from, to) in src.chunks(16).zip(out.chunks_mut(16)) {
+            let mut block = [0u8; 16];
+            block[..3].copy_from_slice(packet_nonce);
+            block[3..8].copy_from_slice(session_nonce);
+            block[8..].copy_from_slice(&counter.to_be_bytes());
+            encrypt_block(&keys, &mut block);
+            for ((o, s), b) in to.iter_mut().zip(from).zip(block) {
+                *o = s ^ b;
+            }
+            counter += 1;
+        }
+    }
+}
+
+// The least nanoseconds that a batch of either took, the two in turns.
+fn measure(batches: usize, mut ours: impl FnMut(), mut theirs: impl FnMut()) -> (f64, f64) {
+    let mut least = (f64::MAX, f64::MAX);
+    for _ in 0..batches {
+        let start = Instant::now();
+        ours();
+        least.0 = least.0.min(start.elapsed().as_nanos() as f64);
+        let start = Instant::now();
+        theirs();
+        least.1 = least.1.min(start.elapsed().as_nanos() as f64);
+    }
+    least
+}
+
+fn show(what: &str, (ours, theirs): (f64, f64), per: f64) {
+    println!("{what}: ours {:.1} ns, plain Rust {:.1} ns, ratio {:.2}", ours / per, theirs / per, ours / theirs);
+}
+
+// A fixed stream of bytes.
+fn bytes(seed: &mut u64) -> u8 {
+    *seed = seed.wrapping_mul(6364136223846793005).wrapping_add(1442695040888963407);
+    (*seed >> 56) as u8
+}
+
+fn main() {
+    let mut seed = 1u64;
+    let mut key = [0u8; 16];
+    key.fill_with(|| bytes(&mut seed));
+    let mut keys = [[0u8; 16]; 11];
+    unsafe { cloudgraze_aes_expand_key(&key, &mut keys) };
+    assert_eq!(keys, plain::expand_key(&key), "round keys differ");
+
+    let mut blocks = [[0u8; 16]; 400];
+    for b in blocks.iter_mut() {
+        b.fill_with(|| bytes(&mut seed));
+        let (mut x, mut y) = (*b, *b);
+        unsafe { cloudgraze_aes_encrypt_block(&keys, &mut x) };
+        plain::encrypt_block(&keys, &mut y);
+        assert_eq!(x, y, "blocks differ");
+    }
+    let (mut a, mut b) = (blocks, blocks);
+    let t = measure(
+        3000,
+        || a.iter_mut().for_each(|x| unsafe { cloudgraze_aes_encrypt_block(black_box(&keys), x) }),
+        || b.iter_mut().for_each(|x| plain::encrypt_block(black_box(&keys), x)),
+    );
+    assert_eq!(a, b, "blocks differ");
+    show("block under round keys", t, 400.0);
+
+    let (pn, sn) = ([1, 2, 3], [4, 5, 6, 7, 8]);
+    let mut src = [0u8; 496];
+    src.fill_with(|| bytes(&mut seed));
+    let (mut x, mut y) = ([0u8; 496], [0u8; 496]);
+    let t = measure(
+        3000,
+        || (0..20).for_each(|_| unsafe { cloudgraze_apply_ctr(black_box(&key), &pn, &sn, &src, &mut x) }),
+        || (0..20).for_each(|_| plain::apply_ctr(black_box(&key), &pn, &sn, &src, &mut y)),
+    );
+    assert_eq!(x, y, "counter mode differs");
+    show("counter mode over 496 bytes", t, 20.0);
+}

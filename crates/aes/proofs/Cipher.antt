@@ -1,0 +1,22 @@
+-- What callers need of the cipher without its definition: 16 bytes. Assumes nothing.
+use mathlib.Core.Path.{_≡_, refl}
+use mathlib.Core.List.{List, []}
+use Prim.Native.Nat.{ℕ, _+_, _*_, _%_}
+use lib.ListN.{length, getD}
+use Rattle.aes.specs.Field.{_⊕_}
+use Rattle.aes.specs.Box.{subByte}
+use Rattle.aes.specs.Cipher.{cell, toState, addRoundKey, rounds, from, roundKey, keyExpansion, cipherUnder, cipher}
+use Rattle.aes.proofs.Bytes.{Bytes, xor-byte, sub-byte, state-bytes, key-bytes}
+
+-- whatever the key and the block
+pub length-cipher : (k b : List ℕ) → length (cipher k b) ≡ 16
+unfolding cipher cipherUnder
+length-cipher k b = refl
+
+-- under a key of bytes, whatever the block
+pub cipher-byte : (k b : List ℕ) → Bytes k → Bytes (cipher k b)
+unfolding cipher cipherUnder keyExpansion from
+cipher-byte k b h =
+    let s : List (List ℕ) = rounds (keyExpansion k) (addRoundKey (getD (keyExpansion k) 0 []) (toState b)) 9 in
+    state-bytes (λ r c. subByte (cell s r ((c + r) % 4)) ⊕ getD (roundKey k 10) (r + 4 * c) 0)
+    (λ r c. xor-byte (sub-byte (cell s r ((c + r) % 4))) (key-bytes k h 10 (r + 4 * c)))

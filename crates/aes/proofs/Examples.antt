@@ -1,0 +1,33 @@
+-- What the definitions give where FIPS 197, sections 4 and 5.1, works a value out. Assumes nothing.
+use mathlib.Core.Path.{_≡_, refl}
+use mathlib.Core.List.{List, [], _∷_}
+use Prim.Native.Nat.{ℕ}
+use Rattle.aes.specs.Field.{xtime, times, _•_}
+use Rattle.aes.specs.Box.{subByte, affine, turned, inverse, powers}
+use Rattle.aes.specs.Cipher.{rcon}
+use Rattle.aes.specs.Ctr.{counterBlock}
+
+-- section 4.2
+product : 0x57 • 0x83 ≡ 0xc1
+unfolding _•_ times xtime
+product = refl
+
+-- section 4.2.1
+doubled : xtime 0x8e ≡ 0x07
+unfolding xtime
+doubled = refl
+
+-- section 5.1.1
+substituted : subByte 0x53 ≡ 0xed
+unfolding subByte affine turned inverse powers _•_ times xtime
+substituted = refl
+
+-- section 5.2: the constants of round keys 9 and 10
+constants : rcon 8 ∷ rcon 9 ∷ [] ≡ 0x1b ∷ 0x36 ∷ []
+unfolding rcon xtime
+constants = refl
+
+-- counter 258
+counted : counterBlock (1 ∷ 2 ∷ 3 ∷ []) (4 ∷ 5 ∷ 6 ∷ 7 ∷ 8 ∷ []) 258 ≡ 1 ∷ 2 ∷ 3 ∷ 4 ∷ 5 ∷ 6 ∷ 7 ∷ 8 ∷ 0 ∷ 0 ∷ 0 ∷ 0 ∷ 0 ∷ 0 ∷ 1 ∷ 2 ∷ []
+unfolding counterBlock
+counted = refl

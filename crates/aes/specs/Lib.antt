@@ -1,0 +1,4 @@
+pub mod Field
+pub mod Box
+pub mod Cipher
+pub mod Ctr
