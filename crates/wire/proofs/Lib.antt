@@ -5,3 +5,4 @@ pub mod Numbers
 pub mod Writing
 pub mod Xor
 pub mod Table
+pub mod Lookup

@@ -3,3 +3,4 @@ pub mod Rules
 pub mod Numbers
 pub mod Parts
 pub mod Writing
+pub mod Lookup
