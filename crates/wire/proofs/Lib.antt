@@ -6,3 +6,7 @@ pub mod Writing
 pub mod Xor
 pub mod Table
 pub mod Lookup
+pub mod Fields
+pub mod Five
+pub mod Writers
+pub mod Held

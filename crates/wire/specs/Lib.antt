@@ -4,3 +4,4 @@ pub mod Numbers
 pub mod Parts
 pub mod Writing
 pub mod Lookup
+pub mod Fields
