@@ -5,14 +5,20 @@ use mathlib.Core.Bool.{Bool, true, false, not, _&&_, _||_}
 use mathlib.Core.List.{List, [], _∷_, _++_, append-assoc}
 use native.Mathlib.Omega.{arith}
 use lib.ListN.{length, getD, take, drop, length-append, length-drop, drop-of-length-le}
-use lib.Seq.{drop-at, drop-cons, take-all}
+use lib.Seq.{drop-at, drop-cons, take-all, length-take-le}
 use lib.Dec.{eqb, ltb}
 use borrow.Author.Tests.{ltb-true, ltb-false, not-false}
 use Rattle.wire.specs.Numbers.{num, le}
-use Rattle.wire.specs.Fields.{Field, Layout, width, widths, wrong, wrongSize, wrongTail, secondAbove, valuesAt, wrongAt, wrongFields, encode, unfit, anyPast, sameLengths, partsOf, bodyOf, unreadable}
+use Rattle.wire.specs.Fields.{Field, Layout, width, widths, wrong, wrongSize, wrongTail, secondAbove, valuesAt, wrongAt, wrongFields, encode, unfit, past, anyPast, sameLengths, partsOf, bodyOf, unreadable}
+use Rattle.wire.specs.Parts.{partOf}
 use Rattle.wire.specs.declared.Part.{Part}
 use Rattle.wire.proofs.Choice.{or-fails, true-false}
+use Rattle.wire.proofs.Lists.{part-in}
 use Rattle.wire.proofs.Numbers.{num-le, length-le}
+
+or-true : (a : Bool) → a || true ≡ true
+or-true true = refl
+or-true false = refl
 
 -- the numbers fit: each its own field
 fits : (f : Field) (fs : List Field) (v : ℕ) (vs : List ℕ) → unfit (f ∷ fs) (v ∷ vs) ≡ false → (v < 256 ^ width f) × (unfit fs vs ≡ false)
@@ -73,6 +79,28 @@ readable l vs ps cut s e =
       behind = drop-at (encode (l .fields) vs) (partsOf s ps) (widths (l .fields)) (encode-length (l .fields) vs (o4 .1));
     }
 
+-- ---- how a writer's test falls out
+module _ (l : Layout) (vs : List ℕ) (ps cut : List Part) (s : List ℕ) where
+  pub unreadable-past : anyPast s ps ≡ true → unreadable l vs ps cut s ≡ true
+  unreadable-past e = rw e
+
+  pub unreadable-fit : unfit (l .fields) vs ≡ true → unreadable l vs ps cut s ≡ true
+  unreadable-fit e = rw (e, or-true (anyPast s ps))
+
+  pub unreadable-size : wrongSize (l .size) (bodyOf l vs ps s) ≡ true → unreadable l vs ps cut s ≡ true
+  unreadable-size e = rw (e, or-true (anyPast s ps || unfit (l .fields) vs))
+
+  pub unreadable-fields : wrongFields l (bodyOf l vs ps s) ≡ true → unreadable l vs ps cut s ≡ true
+  unreadable-fields e = rw (e, or-true (anyPast s ps || unfit (l .fields) vs || wrongSize (l .size) (bodyOf l vs ps s)))
+
+  pub unreadable-cut : sameLengths ps cut ≡ false → unreadable l vs ps cut s ≡ true
+  unreadable-cut e =
+      rw (e, or-true (anyPast s ps || unfit (l .fields) vs || wrongSize (l .size) (bodyOf l vs ps s) || wrongFields l (bodyOf l vs ps s)))
+
+  pub not-unreadable : anyPast s ps ≡ false → unfit (l .fields) vs ≡ false → wrongSize (l .size) (bodyOf l vs ps s) ≡ false
+      → wrongFields l (bodyOf l vs ps s) ≡ false → sameLengths ps cut ≡ true → unreadable l vs ps cut s ≡ false
+  not-unreadable e1 e2 e3 e4 e5 = rw (e1, e2, e3, e4, e5)
+
 -- ---- pairs
 -- one pair of a run of pairs, of which the next stands at z
 pub second-step : (limit : ℕ) (s : List ℕ) (j : ℕ) {y z : ℕ} → suc j < length s → y ≡ suc j → z ≡ suc (suc j)
@@ -84,6 +112,12 @@ second-end limit [] h = refl
 second-end limit (a ∷ []) h = refl
 second-end limit (a ∷ (b ∷ s)) h = absurd (omega arith)
 
--- ---- a slice from a place on
+-- ---- parts
+pub part-length : (s : List ℕ) (p : Part) → past s p ≡ false → length (partOf s p) ≡ p .len
+part-length s p e =
+    let h = ltb-false (length s) (p .start + p .len) e in
+    ap length (part-in s (p .start) (p .len) h)
+    ∙ length-take-le (p .len) (drop (p .start) s) (omega (arith, length-drop (p .start) s))
+
 pub to-end : (s : List ℕ) (n : ℕ) → take (length s - n) (drop n s) ≡ drop n s
 to-end s n = take-all (length s - n) (drop n s) (omega (arith, length-drop n s))
