@@ -5,3 +5,8 @@ pub mod Numbers
 pub mod Writing
 pub mod Xor
 pub mod Table
+pub mod Lookup
+pub mod Fields
+pub mod Five
+pub mod Writers
+pub mod Held

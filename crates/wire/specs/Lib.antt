@@ -3,3 +3,5 @@ pub mod Rules
 pub mod Numbers
 pub mod Parts
 pub mod Writing
+pub mod Lookup
+pub mod Fields

@@ -1,4 +1,6 @@
 // What several crates need: parts of a slice, little-endian numbers, the answer of a writer.
+pub mod layouts;
+
 ghost use mathlib.Core.Path.{_≡_};
 ghost use mathlib.Core.List.{_++_, _∷_, []};
 ghost use Prim.Native.Nat.{_+_, _≤_, _<_};

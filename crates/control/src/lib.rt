@@ -1,0 +1,149 @@
+// Control packets: the commands, and their reader.
+pub mod marks;
+mod payloads;
+
+use crate::marks::A;
+use crate::marks::AMB;
+use crate::marks::AMBS;
+use crate::marks::S;
+use crate::marks::by_mark;
+use access::Access;
+use access::Mode;
+use wire::Part;
+ghost use mathlib.Core.Path.{_≡_};
+ghost use lib.ListN.{drop};
+ghost use Rattle.control.specs.Command.{keyPart};
+ghost use Rattle.control.specs.Table.{rowOf};
+ghost use Rattle.control.specs.Control.{readControl, readCommand, readRow};
+
+// A part in a command counts from the start of the command's payload.
+pub enum Command {
+    Setup(SetupFields),
+    FactoryReset,
+    GetState(GetStateFields),
+    SetState(SetStateFields),
+    BootloaderVersion,
+    UicrData,
+    IbeaconConfig(IbeaconFields),
+    Reset,
+    GotoDfu,
+    NoOperation,
+    Disconnect,
+    Switch(u8),
+    MultiSwitch(MultiSwitchFields),
+}
+
+// Keys: six of 16 bytes, one behind the other.
+pub struct SetupFields {
+    pub stone: u8,
+    pub sphere: u8,
+    pub keys: Part,
+    pub rest: Part,
+}
+
+// Kind: the state's type.
+pub struct GetStateFields {
+    pub kind: u16,
+    pub id: u16,
+    pub mode: u8,
+}
+
+pub struct SetStateFields {
+    pub kind: u16,
+    pub id: u16,
+    pub mode: u8,
+    pub value: Part,
+}
+
+pub struct IbeaconFields {
+    pub id: u8,
+    pub timestamp: u32,
+    pub interval: u16,
+}
+
+// Pairs: a stone and a switch value each.
+pub struct MultiSwitchFields {
+    pub count: u8,
+    pub pairs: Part,
+}
+
+pub enum ControlRead {
+    Accepted(Command),
+    Refused(u8),
+}
+
+// The part of the key with an index from 0 to 5; an empty one for any other, or for keys that lie in no payload.
+pub fn key_part(keys: Part, index: usize) -> Part
+    ensures { λ r. ⌜ r ≡ keyPart keys index ⌝ }
+{
+    let start = keys.start;
+    if 5 < index {
+        return Part { start: 0, len: 0 };
+    }
+    if 65535 < start {
+        return Part { start: 0, len: 0 };
+    }
+    Part {
+        start: start + 16 * index,
+        len: 16,
+    }
+}
+
+// A control packet that came in a mode, plain or with a level's key: 18 to 24, or the command.
+pub fn read_control(packet: &[u8], mode: Mode, access: Access) -> ControlRead
+    ensures { λ r. ⌜ r ≡ readControl (now (packet .entry)) mode access ⌝ }
+{
+    if packet.len() < 5 {
+        return ControlRead::Refused(18);
+    }
+    if packet.len() != 5 + (wire::read_u16(packet, 3) as usize) {
+        return ControlRead::Refused(18);
+    }
+    read_command(packet, mode, access)
+}
+
+// The same without 18, for a packet whose length was judged already.
+pub fn read_command(packet: &[u8], mode: Mode, access: Access) -> ControlRead
+    ensures { λ r. ⌜ r ≡ readCommand (now (packet .entry)) mode access ⌝ }
+{
+    if wire::byte_at(packet, 0) != 5 {
+        return ControlRead::Refused(19);
+    }
+    read_row(wire::read_u16(packet, 1), payload(packet), mode, access)
+}
+
+fn payload(packet: &[u8]) -> &[u8]
+    ensures { λ r. ⌜ now r ≡ drop 5 (now (packet .entry)) ⌝ }
+{
+    if packet.len() < 5 {
+        return &packet[0..0];
+    }
+    &packet[5..]
+}
+
+// The table of commands: number, marks, payload.
+fn read_row(number: u16, q: &[u8], mode: Mode, access: Access) -> ControlRead
+    ensures { λ r. ⌜ r ≡ readRow (rowOf number) (now (q .entry)) mode access ⌝ }
+{
+    match number {
+        0 => by_mark(S, mode, access, payloads::setup(q)),
+        1 => by_mark(A, mode, access, payloads::factory_reset(q)),
+        2 => by_mark(AMB, mode, access, payloads::get_state(q)),
+        3 => by_mark(AMB, mode, access, payloads::set_state(q)),
+        4 => by_mark(
+            AMBS,
+            mode,
+            access,
+            payloads::none(q, Command::BootloaderVersion),
+        ),
+        5 => by_mark(AMBS, mode, access, payloads::none(q, Command::UicrData)),
+        6 => by_mark(A, mode, access, payloads::ibeacon_config(q)),
+        10 => by_mark(A, mode, access, payloads::none(q, Command::Reset)),
+        11 => by_mark(A, mode, access, payloads::none(q, Command::GotoDfu)),
+        12 => by_mark(AMB, mode, access, payloads::none(q, Command::NoOperation)),
+        13 => by_mark(AMB, mode, access, payloads::none(q, Command::Disconnect)),
+        20 => by_mark(AMBS, mode, access, payloads::switch(q)),
+        21 => by_mark(AMB, mode, access, payloads::multi_switch(q)),
+        _ => ControlRead::Refused(20),
+    }
+}

@@ -1,0 +1,39 @@
+-- What a writer of control packets writes, and what it refuses.
+use Prim.Native.Nat.{ℕ}
+use mathlib.Core.Bool.{Bool, _||_}
+use mathlib.Core.List.{List, _∷_, _++_}
+use lib.ListN.{length}
+use lib.Dec.{ltb}
+use Rattle.wire.specs.Numbers.{le}
+use Rattle.wire.specs.Fields.{bodyOf, unreadable}
+use Rattle.control.specs.Command.{commandNumber, commandValues, commandParts}
+use Rattle.control.specs.Table.{Row, rowOf}
+use Rattle.control.specs.declared.Command.{Command}
+
+-- protocol, command type, size, payload
+abbrev pub packet : ℕ → List ℕ → List ℕ
+packet n q = 5 ∷ (le 2 n ++ (le 2 (length q) ++ q))
+
+-- a command's row of the table
+abbrev pub rowFor : Command → Row
+rowFor c = rowOf (commandNumber c)
+
+-- its payload, of its numbers and of the bytes that its parts name in s
+abbrev pub payloadOf : Command → List ℕ → List ℕ
+payloadOf c s = bodyOf (rowFor c .payload) (commandValues c) (commandParts c) s
+
+abbrev pub controlImage : Command → List ℕ → List ℕ
+controlImage c s = packet (commandNumber c) (payloadOf c s)
+
+-- the command that its reader would make of it
+abbrev pub reread : Command → List ℕ → Command
+reread c s = rowFor c .make (commandValues c) (length (payloadOf c s))
+
+-- 17: what its reader would refuse, or a payload longer than the size field counts
+abbrev pub commandBad : Command → List ℕ → Bool
+commandBad c s =
+    unreadable (rowFor c .payload) (commandValues c) (commandParts c) (commandParts (reread c s)) s || ltb 65535 (length (payloadOf c s))
+
+-- or longer than a limit
+abbrev pub badWithin : ℕ → Command → List ℕ → Bool
+badWithin limit c s = commandBad c s || ltb limit (length (payloadOf c s))

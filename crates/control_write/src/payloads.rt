@@ -1,0 +1,211 @@
+// A writer for each payload: 17 for what its reader would refuse.
+use control::GetStateFields;
+use control::IbeaconFields;
+use control::MultiSwitchFields;
+use control::SetStateFields;
+use control::SetupFields;
+use wire::Written;
+ghost use mathlib.Core.Bool.{_||_};
+ghost use mathlib.Core.List.{_++_, []};
+ghost use lib.Dec.{ltb};
+ghost use lib.ListN.{length};
+ghost use Rattle.wire.specs.Writing.{Writes};
+ghost use Rattle.control.specs.declared.Command.the-variants.{Setup, FactoryReset, GetState, SetState, IbeaconConfig, Switch, MultiSwitch};
+ghost use Rattle.control_write.specs.Image.{packet, controlImage, badWithin};
+
+// A packet behind other bytes: its payload is fields and two slices, and at most a limit long.
+pub fn packet(
+    front: &[u8],
+    limit: usize,
+    number: u16,
+    fields: &[u8],
+    a: &[u8],
+    b: &[u8],
+    out: &mut [u8],
+) -> Written
+    ensures { λ r. ⌜ Writes (ltb 65535 (length (now (fields .entry) ++ (now (a .entry) ++ now (b .entry)))) || ltb limit (length (now (fields .entry) ++ (now (a .entry) ++ now (b .entry)))))
+        (now (front .entry) ++ packet number (now (fields .entry) ++ (now (a .entry) ++ now (b .entry)))) (now (out .entry)) r (now (out .exit)) ⌝ }
+{
+    if 65535 < fields.len() {
+        return Written::Refused(17);
+    }
+    if 65535 - fields.len() < a.len() {
+        return Written::Refused(17);
+    }
+    if 65535 - fields.len() - a.len() < b.len() {
+        return Written::Refused(17);
+    }
+    let size = fields.len() + a.len() + b.len();
+    if limit < size {
+        return Written::Refused(17);
+    }
+    let head = [
+        5,
+        (number % 256) as u8,
+        (number / 256) as u8,
+        (size % 256) as u8,
+        (size / 256) as u8,
+    ];
+    wire::layouts::write5(front, &head, fields, a, b, out)
+}
+
+pub fn setup(front: &[u8], limit: usize, f: SetupFields, bytes: &[u8], out: &mut [u8]) -> Written
+    ensures { λ r. ⌜ Writes (badWithin limit (Setup f) (now (bytes .entry))) (now (front .entry) ++ controlImage (Setup f) (now (bytes .entry))) (now (out .entry)) r (now (out .exit)) ⌝ }
+{
+    let keys = f.keys;
+    let rest = f.rest;
+    if wire::layouts::runs_past(bytes, keys) {
+        return Written::Refused(17);
+    }
+    if wire::layouts::runs_past(bytes, rest) {
+        return Written::Refused(17);
+    }
+    if keys.len != 96 {
+        return Written::Refused(17);
+    }
+    let fields = [f.stone, f.sphere];
+    packet(
+        front,
+        limit,
+        0,
+        &fields,
+        wire::part_of(bytes, keys),
+        wire::part_of(bytes, rest),
+        out,
+    )
+}
+
+pub fn factory_reset(front: &[u8], limit: usize, bytes: &[u8], out: &mut [u8]) -> Written
+    ensures { λ r. ⌜ Writes (badWithin limit FactoryReset (now (bytes .entry))) (now (front .entry) ++ controlImage FactoryReset (now (bytes .entry))) (now (out .entry)) r (now (out .exit)) ⌝ }
+{
+    let none = &bytes[0..0];
+    let fields = [0xEF, 0xBE, 0xAD, 0xDE];
+    packet(front, limit, 1, &fields, none, none, out)
+}
+
+pub fn get_state(
+    front: &[u8],
+    limit: usize,
+    f: GetStateFields,
+    bytes: &[u8],
+    out: &mut [u8],
+) -> Written
+    ensures { λ r. ⌜ Writes (badWithin limit (GetState f) (now (bytes .entry))) (now (front .entry) ++ controlImage (GetState f) (now (bytes .entry))) (now (out .entry)) r (now (out .exit)) ⌝ }
+{
+    if 2 < f.mode {
+        return Written::Refused(17);
+    }
+    let none = &bytes[0..0];
+    let fields = [
+        (f.kind % 256) as u8,
+        (f.kind / 256) as u8,
+        (f.id % 256) as u8,
+        (f.id / 256) as u8,
+        f.mode,
+        0,
+    ];
+    packet(front, limit, 2, &fields, none, none, out)
+}
+
+pub fn set_state(
+    front: &[u8],
+    limit: usize,
+    f: SetStateFields,
+    bytes: &[u8],
+    out: &mut [u8],
+) -> Written
+    ensures { λ r. ⌜ Writes (badWithin limit (SetState f) (now (bytes .entry))) (now (front .entry) ++ controlImage (SetState f) (now (bytes .entry))) (now (out .entry)) r (now (out .exit)) ⌝ }
+{
+    let value = f.value;
+    if wire::layouts::runs_past(bytes, value) {
+        return Written::Refused(17);
+    }
+    if 1 < f.mode {
+        return Written::Refused(17);
+    }
+    let fields = [
+        (f.kind % 256) as u8,
+        (f.kind / 256) as u8,
+        (f.id % 256) as u8,
+        (f.id / 256) as u8,
+        f.mode,
+        0,
+    ];
+    packet(
+        front,
+        limit,
+        3,
+        &fields,
+        &bytes[0..0],
+        wire::part_of(bytes, value),
+        out,
+    )
+}
+
+pub fn ibeacon_config(
+    front: &[u8],
+    limit: usize,
+    f: IbeaconFields,
+    bytes: &[u8],
+    out: &mut [u8],
+) -> Written
+    ensures { λ r. ⌜ Writes (badWithin limit (IbeaconConfig f) (now (bytes .entry))) (now (front .entry) ++ controlImage (IbeaconConfig f) (now (bytes .entry))) (now (out .entry)) r (now (out .exit)) ⌝ }
+{
+    if 1 < f.id {
+        return Written::Refused(17);
+    }
+    let none = &bytes[0..0];
+    let fields = [
+        f.id,
+        (f.timestamp % 256) as u8,
+        (f.timestamp / 256 % 256) as u8,
+        (f.timestamp / 256 / 256 % 256) as u8,
+        (f.timestamp / 256 / 256 / 256) as u8,
+        (f.interval % 256) as u8,
+        (f.interval / 256) as u8,
+    ];
+    packet(front, limit, 6, &fields, none, none, out)
+}
+
+pub fn switch(front: &[u8], limit: usize, value: u8, bytes: &[u8], out: &mut [u8]) -> Written
+    ensures { λ r. ⌜ Writes (badWithin limit (Switch value) (now (bytes .entry))) (now (front .entry) ++ controlImage (Switch value) (now (bytes .entry))) (now (out .entry)) r (now (out .exit)) ⌝ }
+{
+    if 100 < value {
+        return Written::Refused(17);
+    }
+    let none = &bytes[0..0];
+    let fields = [value];
+    packet(front, limit, 20, &fields, none, none, out)
+}
+
+pub fn multi_switch(
+    front: &[u8],
+    limit: usize,
+    f: MultiSwitchFields,
+    bytes: &[u8],
+    out: &mut [u8],
+) -> Written
+    ensures { λ r. ⌜ Writes (badWithin limit (MultiSwitch f) (now (bytes .entry))) (now (front .entry) ++ controlImage (MultiSwitch f) (now (bytes .entry))) (now (out .entry)) r (now (out .exit)) ⌝ }
+{
+    let pairs = f.pairs;
+    if wire::layouts::runs_past(bytes, pairs) {
+        return Written::Refused(17);
+    }
+    if pairs.len != 2 * wire::wide(f.count) {
+        return Written::Refused(17);
+    }
+    let named = wire::part_of(bytes, pairs);
+    if wire::layouts::second_above(100, named) {
+        return Written::Refused(17);
+    }
+    let fields = [f.count];
+    packet(front, limit, 21, &fields, &bytes[0..0], named, out)
+}
+
+// A command that has no payload.
+pub fn none(front: &[u8], limit: usize, number: u16, bytes: &[u8], out: &mut [u8]) -> Written
+    ensures { λ r. ⌜ Writes (ltb limit 0) (now (front .entry) ++ packet number []) (now (out .entry)) r (now (out .exit)) ⌝ }
+{
+    let empty = &bytes[0..0];
+    packet(front, limit, number, empty, empty, empty, out)
+}
