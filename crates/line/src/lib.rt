@@ -46,7 +46,7 @@ pub struct Step {
 }
 
 // What a byte asks of the store: nothing, a byte in its place, a frame's last byte in its place, or nothing and a refusal.
-pub enum Action {
+enum Action {
     Keep,
     Put { at: usize, byte: u8 },
     Finish { at: usize, byte: u8, size: usize },
@@ -54,9 +54,9 @@ pub enum Action {
 }
 
 // What a byte does to the progress, and what it asks of the store.
-pub struct Move {
-    pub progress: Progress,
-    pub action: Action,
+struct Move {
+    progress: Progress,
+    action: Action,
 }
 
 // At rest, with a store of zeros.
@@ -356,15 +356,15 @@ fn silent(e: Event) -> bool
 }
 
 // How far a run of bytes went that changed nothing but the store and the count.
-pub struct Ran {
-    pub progress: Progress,
-    pub at: usize,
+struct Ran {
+    progress: Progress,
+    at: usize,
 }
 
 // An unescaped byte and how many bytes it was on the line; 0 for a byte that is left to the step.
-pub struct Unescaped {
-    pub byte: u8,
-    pub width: usize,
+struct Unescaped {
+    byte: u8,
+    width: usize,
 }
 
 // The unescaped byte that stands at a place of a frame.

@@ -78,9 +78,9 @@ fn mixed(h: u64, e: Event) -> u64
 }
 
 // The receiver after some bytes, and the events so far.
-pub struct Heard {
-    pub receiver: Receiver,
-    pub events: u64,
+struct Heard {
+    receiver: Receiver,
+    events: u64,
 }
 
 fn hear(r: Receiver, events: u64, s: &[u8], shown: bool) -> Heard

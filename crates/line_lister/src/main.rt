@@ -132,9 +132,9 @@ fn list_read(r: Receiver, s: &[u8]) -> Receiver {
 }
 
 // The receiver after a read, and whether there may be another.
-pub struct Turn {
-    pub receiver: Receiver,
-    pub more: bool,
+struct Turn {
+    receiver: Receiver,
+    more: bool,
 }
 
 // One read, wherever it is cut.
