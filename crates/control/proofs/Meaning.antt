@@ -1,24 +1,20 @@
 -- What is read off a command that a row made is the row's: number, values, bytes. Assumes nothing.
-use mathlib.Core.Path.{_≡_, refl, sym, ap, _∙_}
-use Prim.Native.Nat.{ℕ, suc, _+_, _-_, _*_, _≤_, _<_}
+use mathlib.Core.Path.{_≡_, refl, sym, ap}
+use Prim.Native.Nat.{ℕ, _+_, _-_, _*_, _≤_}
 use mathlib.Core.Bool.{Bool, true, false, not, _||_}
 use mathlib.Core.List.{List, [], _∷_, _++_}
 use native.Mathlib.Omega.{arith}
-use lib.ListN.{length, getD, take, drop, length-drop, take-append-drop}
-use lib.Seq.{take-all, drop-drop}
+use lib.ListN.{length, getD, drop, length-drop, take-append-drop}
+use lib.Seq.{drop-drop}
 use borrow.Author.Tests.{eqb-true, ltb-false, not-false}
 use lib.Dec.{eqb, ltb}
 use Rattle.wire.specs.Numbers.{num}
-use Rattle.wire.specs.Rules.{firstBroken}
 use Rattle.wire.specs.Parts.{part, partOf}
 use Rattle.wire.specs.Fields.{Layout, valuesAt, widths, wrongSize, wrongAt, wrongFields}
 use Rattle.wire.proofs.Choice.{or-fails, true-false}
 use Rattle.wire.proofs.Fields.{part-end}
 use Rattle.wire.proofs.Lists.{part-in, nil-of}
 use Rattle.wire.proofs.Lookup.{lookup-all}
-use Rattle.wire.proofs.Rules.{first-none, first-right}
-use Rattle.access.specs.declared.Mode.{Mode}
-use Rattle.access.specs.declared.Access.{Access}
 use Rattle.control.specs.Command.{commandNumber, commandValues, commandBytes}
 use Rattle.control.specs.Table.{Row, table, noRow, rowOf, state}
 use Rattle.control.specs.Control.{commandOf}

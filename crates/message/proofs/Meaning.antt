@@ -1,6 +1,6 @@
 -- An accepted message says what the tables read from its bytes. Assumes nothing.
-use mathlib.Core.Path.{_≡_, refl, sym, ap, _∙_}
-use Prim.Native.Nat.{ℕ, _+_, _-_, _≤_}
+use mathlib.Core.Path.{_≡_, refl, sym, _∙_}
+use Prim.Native.Nat.{ℕ}
 use mathlib.Core.Bool.{Bool, true, false, not, _||_}
 use mathlib.Core.List.{List, [], _∷_}
 use native.Mathlib.Omega.{arith}
@@ -11,10 +11,9 @@ use borrow.Author.Tests.{eqb-true, ltb-false, not-false}
 use Rattle.wire.specs.Numbers.{num}
 use Rattle.wire.specs.Parts.{part, partOf}
 use Rattle.wire.specs.Rules.{_when_, firstBroken}
-use Rattle.wire.specs.Fields.{wrongSize, wrongFields}
 use Rattle.wire.proofs.Choice.{or-fails, true-false}
 use Rattle.wire.proofs.Fields.{part-end}
-use Rattle.wire.proofs.Lists.{part-in, nil-of}
+use Rattle.wire.proofs.Lists.{part-in}
 use Rattle.wire.proofs.Lookup.{lookup-all}
 use Rattle.wire.proofs.Rules.{first-none}
 use Rattle.access.specs.declared.Mode.{Mode}
@@ -23,7 +22,7 @@ use Rattle.control.proofs.Reading.{control-accepts}
 use Rattle.control.proofs.Meaning.{none-behind, row-says}
 use Rattle.message.specs.Message.{messageType, messageValues, messageBytes, partsAt}
 use Rattle.message.specs.Table.{Row, table, noRow, typeOf, accessOf, bare, hidden}
-use Rattle.message.specs.Reading.{formRules, bodyRules, typeRules, messageRules, messageOf, tableValues, tableBytes}
+use Rattle.message.specs.Reading.{bodyRules, typeRules, messageRules, messageOf, tableValues, tableBytes}
 use Rattle.message.specs.Says.{Says}
 use Rattle.message.specs.declared.Form.{Form}
 

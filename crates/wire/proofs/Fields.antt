@@ -1,15 +1,15 @@
 -- Reading undoes writing, once over a list of fields. Assumes nothing.
-use mathlib.Core.Path.{_≡_, refl, sym, ap, _∙_}
-use Prim.Native.Nat.{ℕ, zero, suc, _+_, _-_, _*_, _^_, _≤_, _<_}
-use mathlib.Core.Bool.{Bool, true, false, not, _&&_, _||_}
+use mathlib.Core.Path.{_≡_, refl, ap, _∙_}
+use Prim.Native.Nat.{ℕ, suc, _+_, _-_, _^_, _≤_, _<_}
+use mathlib.Core.Bool.{Bool, true, false, not, _||_}
 use mathlib.Core.List.{List, [], _∷_, _++_, append-assoc}
 use native.Mathlib.Omega.{arith}
-use lib.ListN.{length, getD, take, drop, length-append, length-drop, drop-of-length-le}
+use lib.ListN.{length, getD, take, drop, length-append, length-drop}
 use lib.Seq.{drop-at, drop-cons, take-all, length-take-le}
-use lib.Dec.{eqb, ltb}
+use lib.Dec.{ltb}
 use borrow.Author.Tests.{ltb-true, ltb-false, not-false}
 use Rattle.wire.specs.Numbers.{num, le}
-use Rattle.wire.specs.Fields.{Field, Layout, width, widths, wrong, wrongSize, wrongTail, secondAbove, valuesAt, wrongAt, wrongFields, encode, unfit, past, anyPast, sameLengths, partsOf, bodyOf, unreadable}
+use Rattle.wire.specs.Fields.{Field, Layout, width, widths, wrongSize, secondAbove, valuesAt, wrongFields, encode, unfit, past, anyPast, sameLengths, partsOf, bodyOf, unreadable}
 use Rattle.wire.specs.Parts.{part, partOf}
 use Rattle.wire.specs.declared.Part.{Part}
 use Rattle.wire.proofs.Choice.{or-fails, true-false}
