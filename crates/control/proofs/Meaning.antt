@@ -1,23 +1,20 @@
 -- What is read off a command that a row made is the row's: number, values, bytes. Assumes nothing.
-use mathlib.Core.Path.{_≡_, refl, sym, ap, _∙_}
-use Prim.Native.Nat.{ℕ, suc, _+_, _-_, _*_, _≤_, _<_}
+use mathlib.Core.Path.{_≡_, refl, sym, ap}
+use Prim.Native.Nat.{ℕ, _+_, _-_, _*_, _≤_}
 use mathlib.Core.Bool.{Bool, true, false, not, _||_}
 use mathlib.Core.List.{List, [], _∷_, _++_}
 use native.Mathlib.Omega.{arith}
-use lib.ListN.{length, getD, take, drop, length-drop, take-append-drop}
-use lib.Seq.{take-all, drop-drop}
+use lib.ListN.{length, getD, drop, length-drop, take-append-drop}
+use lib.Seq.{drop-drop}
 use borrow.Author.Tests.{eqb-true, ltb-false, not-false}
 use lib.Dec.{eqb, ltb}
 use Rattle.wire.specs.Numbers.{num}
-use Rattle.wire.specs.Rules.{firstBroken}
 use Rattle.wire.specs.Parts.{part, partOf}
 use Rattle.wire.specs.Fields.{Layout, valuesAt, widths, wrongSize, wrongAt, wrongFields}
 use Rattle.wire.proofs.Choice.{or-fails, true-false}
+use Rattle.wire.proofs.Fields.{part-end}
 use Rattle.wire.proofs.Lists.{part-in, nil-of}
 use Rattle.wire.proofs.Lookup.{lookup-all}
-use Rattle.wire.proofs.Rules.{first-none, first-right}
-use Rattle.access.specs.declared.Mode.{Mode}
-use Rattle.access.specs.declared.Access.{Access}
 use Rattle.control.specs.Command.{commandNumber, commandValues, commandBytes}
 use Rattle.control.specs.Table.{Row, table, noRow, rowOf, state}
 use Rattle.control.specs.Control.{commandOf}
@@ -29,12 +26,8 @@ pub record Says (n : ℕ) (l : Layout) (q : List ℕ) (c : Command) : Type 0 whe
   pub values : commandValues c ≡ valuesAt (l .fields) 0 q
   pub bytes : commandBytes c q ≡ drop (widths (l .fields)) q
 
--- the part that runs from a place to the end
-to-end : (q : List ℕ) (k : ℕ) → k ≤ length q → partOf q (part k (length q - k)) ≡ drop k q
-to-end q k h = part-in q k (length q - k) (omega arith) ∙ take-all (length q - k) (drop k q) (omega (arith, length-drop k q))
-
 -- nothing stands behind a payload of exactly so many bytes
-none-behind : (q : List ℕ) (k : ℕ) → not (eqb (length q) k) ≡ false → [] ≡ drop k q
+pub none-behind : (q : List ℕ) (k : ℕ) → not (eqb (length q) k) ≡ false → [] ≡ drop k q
 none-behind q k h = sym (nil-of (drop k q) (omega (arith, length-drop k q, eqb-true (length q) k (not-false _ h))))
 
 -- the only number that a field takes
@@ -48,7 +41,7 @@ Claim q n r = r .listed ≡ true → wrongSize (r .payload .size) q ≡ false �
 module _ (q : List ℕ) where
   setup-bytes : 98 ≤ length q → partOf q (part 2 96) ++ partOf q (part 98 (length q - 98)) ≡ drop 2 q
   setup-bytes h =
-      rw (part-in q 2 96 (omega arith), to-end q 98 h, ← drop-drop 96 2 q) (take-append-drop 96 (drop 2 q))
+      rw (part-in q 2 96 (omega arith), part-end q 98 h, ← drop-drop 96 2 q) (take-append-drop 96 (drop 2 q))
 
   -- get state's and set state's reserved 0
   reserved : (most : ℕ) → wrongAt (state most) 0 q || false ≡ false → 0 ≡ getD q 5 0
@@ -66,7 +59,7 @@ module _ (q : List ℕ) where
           (
             λ e l z f. record { number = sym e; values = ap (λ (v : ℕ). num 2 0 q ∷ num 2 2 q ∷ getD q 4 0 ∷ v ∷ []) (reserved 2 f); bytes = none-behind q 6 z },
             (
-              λ e l z f. record { number = sym e; values = ap (λ (v : ℕ). num 2 0 q ∷ num 2 2 q ∷ getD q 4 0 ∷ v ∷ []) (reserved 1 f); bytes = to-end q 6 (ltb-false _ _ z) },
+              λ e l z f. record { number = sym e; values = ap (λ (v : ℕ). num 2 0 q ∷ num 2 2 q ∷ getD q 4 0 ∷ v ∷ []) (reserved 1 f); bytes = part-end q 6 (ltb-false _ _ z) },
               (
                 λ e l z f. record { number = sym e; values = refl; bytes = none-behind q 0 z },
                 (
@@ -84,7 +77,7 @@ module _ (q : List ℕ) where
                             (
                               λ e l z f. record { number = sym e; values = refl; bytes = none-behind q 1 z },
                               (
-                                λ e l z f. record { number = sym e; values = refl; bytes = to-end q 1 (omega (arith, eqb-true (length q) (1 + 2 * getD q 0 0) (not-false _ z))) },
+                                λ e l z f. record { number = sym e; values = refl; bytes = part-end q 1 (omega (arith, eqb-true (length q) (1 + 2 * getD q 0 0) (not-false _ z))) },
                                 λ l z f. true-false (sym l),
                               ),
                             ),

@@ -9,7 +9,7 @@ use Rattle.wire.specs.Rules.{Rule, _when_, judge}
 use Rattle.wire.specs.Fields.{Layout, valuesAt, wrongSize, wrongFields}
 use Rattle.access.specs.declared.Mode.{Mode}
 use Rattle.access.specs.declared.Access.{Access}
-use Rattle.control.specs.Table.{Row, A, none, rowOf, inMode, hasMark}
+use Rattle.control.specs.Table.{Row, none, rowOf, inMode, hasMark}
 use Rattle.control.specs.declared.marks.Marks.{Marks}
 use Rattle.control.specs.declared.Command.{Command}
 use Rattle.control.specs.declared.ControlRead.{ControlRead}

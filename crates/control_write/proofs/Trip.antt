@@ -1,15 +1,15 @@
 -- What the writer of control packets wrote is read back, every command at once. Assumes nothing.
 use mathlib.Core.Path.{_≡_, refl, sym, ap, subst, _∙_}
-use Prim.Native.Nat.{ℕ, _+_, _*_}
-use mathlib.Core.Bool.{Bool, true, false, not, _||_}
-use mathlib.Core.List.{List, [], _∷_, _++_}
+use Prim.Native.Nat.{ℕ}
+use mathlib.Core.Bool.{true, false}
+use mathlib.Core.List.{List}
 use native.Mathlib.Omega.{arith}
-use lib.ListN.{length, getD, take, drop}
+use lib.ListN.{length, take}
 use lib.Dec.{ltb}
 use borrow.Author.Tests.{not-false}
 use Rattle.wire.specs.Numbers.{num}
 use Rattle.wire.specs.Rules.{firstBroken, verdict}
-use Rattle.wire.specs.Fields.{sameLengths, unreadable, widths, valuesAt}
+use Rattle.wire.specs.Fields.{sameLengths, unreadable}
 use Rattle.wire.specs.Writing.{Writes}
 use Rattle.wire.specs.declared.Written.{Written}
 use Rattle.wire.specs.declared.Written.the-variants.{Wrote}
@@ -20,16 +20,15 @@ use Rattle.wire.proofs.Writers.{wrote-image}
 use Rattle.access.specs.declared.Mode.{Mode}
 use Rattle.access.specs.declared.Access.{Access}
 use Rattle.control.specs.Command.{commandNumber, commandValues, commandParts, commandBytes}
-use Rattle.control.specs.Table.{Row, rowOf}
-use Rattle.control.specs.Control.{markRules, commandOf, commandAt}
+use Rattle.control.specs.Table.{rowOf}
+use Rattle.control.specs.Control.{markRules, controlRules, commandOf, commandAt}
 use Rattle.control.specs.declared.Command.{Command}
 use Rattle.control.specs.declared.Command.the-variants.{Setup, FactoryReset, GetState, SetState, BootloaderVersion, UicrData, IbeaconConfig, Reset, GotoDfu, NoOperation, Disconnect, Switch, MultiSwitch}
-use Rattle.control.specs.declared.ControlRead.{ControlRead}
 use Rattle.control.specs.declared.ControlRead.the-variants.{Accepted, Refused}
 use Rattle.control.proofs.Reading.{Permits, Accepts, control-clear}
 use Rattle.control.proofs.Meaning.{Says, row-says}
 use Rattle.control_write.specs.Image.{packet, rowFor, payloadOf, controlImage, reread, commandBad}
-use Rattle.control_write.specs.RoundTrip.{SameCommand, ReadsBack}
+use Rattle.control_write.specs.RoundTrip.{ReadsBack}
 
 -- every command has a row
 listed : (c : Command) → rowFor c .listed ≡ true
@@ -78,12 +77,15 @@ module _ (c : Command) (s : List ℕ) (m : Mode) (a : Access) (good : commandBad
   says : Says (commandNumber c) (rowFor c .payload) (payloadOf c s) (commandOf (rowFor c) (payloadOf c s))
   says = row-says (payloadOf c s) (commandNumber c) (permitted .listed) (made .sized) (made .right)
 
+  pub unbroken : firstBroken (controlRules (controlImage c s) m a) ≡ 0
+  unbroken = control-clear (controlImage c s) m a accepts
+
   pub reads-back : ReadsBack c s (controlImage c s) m a
   reads-back =
       let e : commandAt (controlImage c s) ≡ commandOf (rowFor c) (payloadOf c s) =
       ap (λ (k : ℕ). commandOf (rowOf k) (payloadOf c s)) (number-back (commandNumber c) (payloadOf c s)) in
       record {
-        answer = ap (λ (n : ℕ). verdict Refused n (Accepted (commandAt (controlImage c s)))) (control-clear (controlImage c s) m a accepts);
+        answer = ap (λ (n : ℕ). verdict Refused n (Accepted (commandAt (controlImage c s)))) unbroken;
         same =
             record {
               number = ap commandNumber e ∙ says .number;

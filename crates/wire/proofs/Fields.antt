@@ -1,16 +1,16 @@
 -- Reading undoes writing, once over a list of fields. Assumes nothing.
-use mathlib.Core.Path.{_≡_, refl, sym, ap, _∙_}
-use Prim.Native.Nat.{ℕ, zero, suc, _+_, _-_, _*_, _^_, _≤_, _<_}
-use mathlib.Core.Bool.{Bool, true, false, not, _&&_, _||_}
+use mathlib.Core.Path.{_≡_, refl, ap, _∙_}
+use Prim.Native.Nat.{ℕ, suc, _+_, _-_, _^_, _≤_, _<_}
+use mathlib.Core.Bool.{Bool, true, false, not, _||_}
 use mathlib.Core.List.{List, [], _∷_, _++_, append-assoc}
 use native.Mathlib.Omega.{arith}
-use lib.ListN.{length, getD, take, drop, length-append, length-drop, drop-of-length-le}
+use lib.ListN.{length, getD, take, drop, length-append, length-drop}
 use lib.Seq.{drop-at, drop-cons, take-all, length-take-le}
-use lib.Dec.{eqb, ltb}
+use lib.Dec.{ltb}
 use borrow.Author.Tests.{ltb-true, ltb-false, not-false}
 use Rattle.wire.specs.Numbers.{num, le}
-use Rattle.wire.specs.Fields.{Field, Layout, width, widths, wrong, wrongSize, wrongTail, secondAbove, valuesAt, wrongAt, wrongFields, encode, unfit, past, anyPast, sameLengths, partsOf, bodyOf, unreadable}
-use Rattle.wire.specs.Parts.{partOf}
+use Rattle.wire.specs.Fields.{Field, Layout, width, widths, wrongSize, secondAbove, valuesAt, wrongFields, encode, unfit, past, anyPast, sameLengths, partsOf, bodyOf, unreadable}
+use Rattle.wire.specs.Parts.{part, partOf}
 use Rattle.wire.specs.declared.Part.{Part}
 use Rattle.wire.proofs.Choice.{or-fails, true-false}
 use Rattle.wire.proofs.Lists.{part-in}
@@ -113,11 +113,16 @@ second-end limit (a ∷ []) h = refl
 second-end limit (a ∷ (b ∷ s)) h = absurd (omega arith)
 
 -- ---- parts
+-- a slice from a place on
+pub to-end : (s : List ℕ) (n : ℕ) → take (length s - n) (drop n s) ≡ drop n s
+to-end s n = take-all (length s - n) (drop n s) (omega (arith, length-drop n s))
+
+-- the part that runs from a place to the end
+pub part-end : (s : List ℕ) (k : ℕ) → k ≤ length s → partOf s (part k (length s - k)) ≡ drop k s
+part-end s k h = part-in s k (length s - k) (omega arith) ∙ to-end s k
+
 pub part-length : (s : List ℕ) (p : Part) → past s p ≡ false → length (partOf s p) ≡ p .len
 part-length s p e =
     let h = ltb-false (length s) (p .start + p .len) e in
     ap length (part-in s (p .start) (p .len) h)
     ∙ length-take-le (p .len) (drop (p .start) s) (omega (arith, length-drop (p .start) s))
-
-pub to-end : (s : List ℕ) (n : ℕ) → take (length s - n) (drop n s) ≡ drop n s
-to-end s n = take-all (length s - n) (drop n s) (omega (arith, length-drop n s))

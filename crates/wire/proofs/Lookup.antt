@@ -1,11 +1,9 @@
 -- Laws of a table looked up by number. Assumes nothing.
-use mathlib.Core.Path.{_≡_, refl, sym, ap, _∙_}
+use mathlib.Core.Path.{_≡_, refl}
 use Prim.Native.Nat.{ℕ}
-use mathlib.Core.Bool.{Bool, true, false}
 use mathlib.Core.List.{List, [], _∷_, _++_, map}
 use lib.Dec.{eqb}
 use borrow.Author.Tests.{ne-eqb, eqb-true}
-use Rattle.wire.specs.Choice.{pick}
 use Rattle.wire.specs.Lookup.{lookup}
 use Rattle.wire.proofs.Choice.{pick-all}
 

@@ -1,15 +1,15 @@
 -- What a writer of an image that judges its fields answers, and what it says when it wrote. Assumes nothing.
 use mathlib.Core.Path.{_≡_, refl, sym, ap, subst, _∙_}
 use mathlib.Core.Bool.{Bool, true, false}
-use mathlib.Core.List.{List, [], _∷_, _++_}
-use Prim.Native.Nat.{ℕ, _+_}
+use mathlib.Core.List.{List, [], _∷_}
+use Prim.Native.Nat.{ℕ}
 use native.Mathlib.Omega.{arith}
 use native.Mathlib.Nat.{zero-add}
 use lib.ListN.{length, take, drop}
 use lib.Seq.{take-at}
 use lib.Dec.{ltb}
 use Rattle.wire.specs.Rules.{_when_, judge}
-use Rattle.wire.specs.Writing.{Stores, Writes, noRoom, placed}
+use Rattle.wire.specs.Writing.{Stores, Writes, noRoom}
 use Rattle.wire.specs.declared.Written.{Written}
 use Rattle.wire.specs.declared.Written.the-variants.{Wrote, Refused}
 use Rattle.wire.proofs.Writing.{stores-refused, stores-past}

@@ -1,0 +1,4 @@
+pub mod Message
+pub mod Table
+pub mod Reading
+pub mod Says
