@@ -1,0 +1,1 @@
+// What an encrypted UART message and a characteristic packet look like.
