@@ -7,7 +7,9 @@ use native.Mathlib.Nat.{zero-add, not-suc-le-zero, le-of-suc-le-suc}
 use native.Mathlib.Omega.{arith}
 use lib.ListN.{length, getD, take, drop, replicate, length-append, length-drop, drop-of-length-le}
 use lib.Seq.{length-take-le, take-at, take-all, take-append-add, drop-append-add, drop-drop}
-use borrow.Author.Tests.{lt-ltb, le-ltb}
+use lib.Dec.{ltb}
+use borrow.Author.Tests.{lt-ltb, le-ltb, ltb-false}
+use Rattle.wire.proofs.Choice.{or-fails}
 use Rattle.wire.specs.Rules.{_when_}
 use Rattle.wire.specs.Writing.{Stores, noRoom, placed}
 use Rattle.wire.specs.declared.Written.{Written}
@@ -125,15 +127,18 @@ sealed-as pn sn room bad {key} {key′} {id} {id′} {text} {text′} {answer} {
     (subst (λ (i : ℕ). Ends key (enveloped (key .bytes) pn sn i text′) room answer after) ei
     (subst (λ (t : List ℕ). Ends key (enveloped (key .bytes) pn sn id t) room answer after) et w)))
 
--- ---- a size outside the limits, or within them
-pub too-short : (least most n : ℕ) → n < least → outside least most n ≡ true
-too-short least most n h = rw (lt-ltb n least h)
-
-pub too-long : (least most n : ℕ) → least ≤ n → most < n → outside least most n ≡ true
-too-long least most n h k = rw (le-ltb n least h, lt-ltb most n k)
-
-pub within : (least most n : ℕ) → least ≤ n → n ≤ most → outside least most n ≡ false
-within least most n h k = rw (le-ltb n least h, le-ltb most n k)
+-- a size within the limits, and one outside
+pub within : (least most n : ℕ) {b : Bool} → b ≡ outside least most n → b ≡ false → (least ≤ n) × (n ≤ most)
+within least most n e k =
+    let o = or-fails (ltb n least) (ltb most n) (sym e ∙ k) in
+    (ltb-false n least (o .0), ltb-false most n (o .1))
 
 pub wrong-size : (key : Key) (bad : Bool) (image room : List ℕ) → bad ≡ true → Seals key bad image room (Refused 17) room
 wrong-size key bad image room e = stores-refused 0 image room (sealerRules key bad image room) 16 (rw e)
+
+-- a sealer that refuses nothing
+pub sealed : (key : Key) {bad : Bool} {image room : List ℕ} {answer : Written} {after : List ℕ} → Seals key bad image room answer after
+    → bad ≡ false → length image ≤ length room → key .held ≡ true → (answer ≡ Wrote (length image)) × (after ≡ image ++ drop (length image) room)
+sealed key {bad} {image} {room} w b h k =
+    let f = le-ltb (length room) (0 + length image) (omega arith) in
+    (w .answers ∙ rw (b, f, k), w .leaves ∙ rw (b, f, k, zero-add (length image)))

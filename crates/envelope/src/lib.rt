@@ -12,3 +12,14 @@ pub use opening::message_in;
 pub use opening::packet_in;
 pub use sealing::seal;
 pub use sealing::seal_characteristic;
+ghost use mathlib.Core.Path.{_≡_};
+ghost use Rattle.envelope.specs.Blocks.{outside as outsideOf};
+
+fn outside(least: usize, most: usize, n: usize) -> bool
+    ensures { λ r. ⌜ r ≡ outsideOf least most n ⌝ }
+{
+    if n < least {
+        return true;
+    }
+    most < n
+}

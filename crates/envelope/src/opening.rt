@@ -1,4 +1,5 @@
 // Blocks deciphered into a work buffer and judged. Each judge gives the number of the first rule that is broken, 0 where none is.
+use crate::outside;
 use wire::Written;
 ghost use mathlib.Core.Path.{_≡_};
 ghost use mathlib.Core.List.{_∷_, []};
@@ -15,10 +16,7 @@ pub fn judge_length(payload: &[u8]) -> u8
     ensures { λ r. ⌜ r ≡ firstBroken (lengthRule (now (payload .entry)) ∷ []) ⌝ }
 {
     let n = blocks_in(payload);
-    if n < 1 {
-        return 7;
-    }
-    if 31 < n {
+    if outside(1, 31, n) {
         return 7;
     }
     if payload.len() != 4 + 16 * n {

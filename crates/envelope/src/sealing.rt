@@ -1,4 +1,5 @@
 // Sealers: the image of an encrypted message or packet, at the front of the lent room. They judge lengths, room and key alone.
+use crate::outside;
 use access::Level;
 use access::Mode;
 use session::Key;
@@ -15,7 +16,7 @@ ghost use Rattle.wire.specs.Writing.{Stores, noRoom, placed};
 ghost use Rattle.aes.specs.Ctr.{blocksFor};
 ghost use Rattle.access.specs.Level.{levelNumber};
 ghost use Rattle.session.specs.Keys.{keyFor};
-ghost use Rattle.envelope.specs.Blocks.{padded, enveloped, outside, Seals};
+ghost use Rattle.envelope.specs.Blocks.{padded, enveloped, outside as outsideOf, Seals};
 ghost use Rattle.envelope.specs.Sealed.{sealedImage};
 ghost use Rattle.envelope.specs.Characteristic.{characteristicImage};
 
@@ -28,14 +29,11 @@ pub fn seal(
     message: &[u8],
     out: &mut [u8],
 ) -> Written
-    ensures { λ r. ⌜ Seals (keyFor keys mode Level.Admin) (outside 2 490 (length (now (message .entry))))
+    ensures { λ r. ⌜ Seals (keyFor keys mode Level.Admin) (outsideOf 2 490 (length (now (message .entry))))
         (sealedImage (keyFor keys mode Level.Admin .bytes) «packet_nonce» «session_nonce» (now (message .entry))) (now (out .entry)) r (now (out .exit)) ⌝ }
 {
     let size = message.len();
-    if size < 2 {
-        return Written::Refused(17);
-    }
-    if 490 < size {
+    if outside(2, 490, size) {
         return Written::Refused(17);
     }
     let key = keys.serving(mode, Level::Admin);
@@ -54,14 +52,11 @@ pub fn seal_characteristic(
     packet: &[u8],
     out: &mut [u8],
 ) -> Written
-    ensures { λ r. ⌜ Seals (keyFor keys mode level) (outside 5 492 (length (now (packet .entry))))
+    ensures { λ r. ⌜ Seals (keyFor keys mode level) (outsideOf 5 492 (length (now (packet .entry))))
         (characteristicImage (keyFor keys mode level .bytes) «packet_nonce» «session_nonce» (levelNumber level) validation (now (packet .entry))) (now (out .entry)) r (now (out .exit)) ⌝ }
 {
     let size = packet.len();
-    if size < 5 {
-        return Written::Refused(17);
-    }
-    if 492 < size {
+    if outside(5, 492, size) {
         return Written::Refused(17);
     }
     let key = keys.serving(mode, level);

@@ -1,13 +1,12 @@
 -- A session's validity: the test in whole minutes, the numbers it stands for, and document 01's example. Assumes nothing.
 use mathlib.Core.Path.{_≡_, refl, sym, _∙_}
-use mathlib.Core.Bool.{Bool, true, false, _&&_}
-use mathlib.Core.List.{List, [], _∷_}
+use mathlib.Core.Bool.{Bool, true, false}
+use mathlib.Core.List.{[], _∷_}
 use Prim.Native.Nat.{ℕ, _-_, _*_, _/_, _≤_, _<_}
 use native.Mathlib.Omega.{arith}
 use lib.Dec.{leb, ltb}
 use borrow.Author.Tests.{leb-true, ltb-true, ltb-false, le-leb, lt-leb, lt-ltb, le-ltb}
 use Rattle.wire.proofs.Choice.{and-holds}
-use Rattle.units.specs.declared.Minutes.{Minutes}
 use Rattle.units.specs.declared.Seconds.{Seconds}
 use Rattle.session.specs.declared.Session.{Session}
 use Rattle.session.specs.Session.{noSession, withNonce, validAt}

@@ -1,6 +1,6 @@
 -- Document 01, 'Cipher and session': level 100 has a key only in setup mode, levels 0, 1 and 2 only in normal mode.
 use Prim.Native.Nat.{ℕ}
-use mathlib.Core.Bool.{true, false}
+use mathlib.Core.Bool.{false}
 use lib.ListN.{replicate}
 use Rattle.access.specs.Level.{levelOf}
 use Rattle.access.specs.declared.Mode.{Mode}

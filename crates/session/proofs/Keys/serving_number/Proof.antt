@@ -1,5 +1,5 @@
 -- `session::Keys::serving_number` meets its contract. Assumes nothing.
-use mathlib.Core.Path.{_≡_, sym, ap, _∙_}
+use mathlib.Core.Path.{sym, ap, _∙_}
 use borrow.Author.Needs.{needs}
 use Rattle.access.specs.declared.LevelRead.{LevelRead}
 use Rattle.session.specs.Keys.{keyForRead}

@@ -1,5 +1,5 @@
 -- `session::Session::valid_at` meets its contract. Assumes nothing.
-use mathlib.Core.Path.{_≡_, ap, _∙_}
+use mathlib.Core.Path.{ap, _∙_}
 use borrow.Author.Needs.{needs}
 use lib.Dec.{ltb}
 use Rattle.units.specs.declared.Minutes.{Minutes}
