@@ -1,0 +1,4 @@
+pub mod Bytes
+pub mod Envelopes
+pub mod Sealers
+pub mod Unsealed

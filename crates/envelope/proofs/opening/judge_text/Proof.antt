@@ -1,0 +1,44 @@
+-- `envelope::opening::judge_text` meets its contract. Assumes nothing.
+use mathlib.Core.Path.{sym, _∙_}
+use borrow.Author.Tests.{lt-ltb, le-ltb, eq-eqb, ne-eqb}
+use Rattle.envelope.specs.Sealed.{lateRules}
+use borrow.Author.Needs.{needs}
+use Rattle.envelope.proofs.opening.judge_text.Statement.{statement}
+use Rattle.envelope.proofs.opening.judge_text.Tie as tie
+
+returns : tie.Need-returns
+unfolding lateRules
+returns c = simp (sym (c .before .read-u32 .ensures), ne-eqb _ _ (c .if1 .taken))
+
+returns-2 : tie.Need-returns-2
+unfolding lateRules
+returns-2 c = simp (sym (c .before .before .before .read-u32 .ensures), eq-eqb _ _ (c .before .before .if1 .left), sym (c .before .read-u16 .ensures .0), lt-ltb _ _ (c .if2 .taken))
+
+returns-3 : tie.Need-returns-3
+unfolding lateRules
+returns-3 c = simp (sym (c .before .before .before .before .before .read-u32 .ensures), eq-eqb _ _ (c .before .before .before .before .if1 .left), sym (c .before .before .before .read-u16 .ensures .0), le-ltb _ _ (c .before .before .if2 .left), sym (c .before .not-least .ensures) ∙ c .if3 .taken)
+
+returns-4 : tie.Need-returns-4
+unfolding lateRules
+returns-4 c = simp (sym (c .before .before .before .before .before .before .before .read-u32 .ensures), eq-eqb _ _ (c .before .before .before .before .before .before .if1 .left), sym (c .before .before .before .before .before .read-u16 .ensures .0), le-ltb _ _ (c .before .before .before .before .if2 .left), sym (c .before .before .before .not-least .ensures) ∙ c .before .before .if3 .left, sym (c .before .all-zero .ensures) ∙ c .if4 .taken)
+
+returns-5 : tie.Need-returns-5
+unfolding lateRules
+returns-5 c = simp (sym (c .before .before .before .before .before .before .before .read-u32 .ensures), eq-eqb _ _ (c .before .before .before .before .before .before .if1 .left), sym (c .before .before .before .before .before .read-u16 .ensures .0), le-ltb _ _ (c .before .before .before .before .if2 .left), sym (c .before .before .before .not-least .ensures) ∙ c .before .before .if3 .left, sym (c .before .all-zero .ensures) ∙ c .if4 .left)
+
+pub judge-text-spec : {M : Type 1} → statement M
+judge-text-spec =
+    tie.close
+    (tie.spec
+    (λ c κs. search needs)
+    returns
+    (λ c κs. search needs)
+    (λ c. search needs)
+    returns-2
+    (λ c. search needs)
+    (λ c κs. search needs)
+    returns-3
+    (λ c. search needs)
+    (λ c κs. search needs)
+    returns-4
+    returns-5)

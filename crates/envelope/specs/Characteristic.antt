@@ -1,0 +1,40 @@
+-- Document 01, 'Cipher and session': the characteristic packet.
+use Prim.Native.Nat.{ℕ, _+_}
+use mathlib.Core.Bool.{Bool, true, false, not, _&&_}
+use mathlib.Core.List.{List, [], _∷_, _++_}
+use lib.ListN.{take, drop}
+use lib.Dec.{eqb}
+use Rattle.wire.specs.Numbers.{num}
+use Rattle.wire.specs.Rules.{Rule, _when_}
+use Rattle.envelope.specs.Blocks.{padded, enveloped, notLeast, allZero}
+
+-- ---- sealing
+-- the connection's validation key (4), control packet, zero padding
+unfoldable pub characteristicText : List ℕ → List ℕ → List ℕ
+characteristicText validation packet = padded (validation ++ packet)
+
+-- user level, by its number
+unfoldable pub characteristicImage : List ℕ → List ℕ → List ℕ → ℕ → List ℕ → List ℕ → List ℕ
+characteristicImage key pn sn level validation packet = enveloped key pn sn level (characteristicText validation packet)
+
+-- ---- opening
+abbrev pub sameBytes : List ℕ → List ℕ → Bool
+sameBytes [] [] = true
+sameBytes [] (b ∷ t) = false
+sameBytes (a ∷ s) [] = false
+sameBytes (a ∷ s) (b ∷ t) = eqb a b && sameBytes s t
+
+-- the packet's bytes by its own size field, which stands behind the validation key, the protocol and the command type
+abbrev pub packetSize : List ℕ → ℕ
+packetSize text = 5 + num 2 7 text
+
+-- rules of the n blocks deciphered. 18: the packet runs past them, or n is not the least
+unfoldable pub characteristicRules : List ℕ → List ℕ → List Rule
+characteristicRules validation text =
+    (11 when not (sameBytes (take 4 text) validation))
+    ∷ (18 when notLeast text (4 + packetSize text))
+    ∷ (13 when not (allZero (drop (4 + packetSize text) text)))
+    ∷ []
+
+unfoldable pub packetIn : List ℕ → List ℕ
+packetIn text = take (packetSize text) (drop 4 text)

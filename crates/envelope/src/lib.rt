@@ -1,0 +1,25 @@
+// What an encrypted UART message and a characteristic packet look like: sealing, and the parts of opening that know their layout.
+mod opening;
+mod sealing;
+
+pub use opening::clear;
+pub use opening::decipher;
+pub use opening::judge_characteristic;
+pub use opening::judge_length;
+pub use opening::judge_room;
+pub use opening::judge_text;
+pub use opening::message_in;
+pub use opening::packet_in;
+pub use sealing::seal;
+pub use sealing::seal_characteristic;
+ghost use mathlib.Core.Path.{_≡_};
+ghost use Rattle.envelope.specs.Blocks.{outside as outsideOf};
+
+fn outside(least: usize, most: usize, n: usize) -> bool
+    ensures { λ r. ⌜ r ≡ outsideOf least most n ⌝ }
+{
+    if n < least {
+        return true;
+    }
+    most < n
+}

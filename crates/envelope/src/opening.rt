@@ -1,0 +1,185 @@
+// Blocks deciphered into a work buffer and judged. Each judge gives the number of the first rule that is broken, 0 where none is.
+use crate::outside;
+use wire::Written;
+ghost use mathlib.Core.Path.{_≡_};
+ghost use mathlib.Core.List.{_∷_, []};
+ghost use Prim.Native.Nat.{_+_, _≤_, min};
+ghost use lib.ListN.{length, take, drop};
+ghost use Rattle.wire.specs.Rules.{firstBroken};
+ghost use Rattle.wire.specs.Writing.{Stores, noRoom};
+ghost use Rattle.envelope.specs.Blocks.{blocksIn, deciphered, lengthRule, roomRule, notLeast, allZero, cleared};
+ghost use Rattle.envelope.specs.Sealed.{lateRules, messageIn};
+ghost use Rattle.envelope.specs.Characteristic.{sameBytes, packetSize, characteristicRules, packetIn};
+
+// 7.
+pub fn judge_length(payload: &[u8]) -> u8
+    ensures { λ r. ⌜ r ≡ firstBroken (lengthRule (now (payload .entry)) ∷ []) ⌝ }
+{
+    let n = blocks_in(payload);
+    if outside(1, 31, n) {
+        return 7;
+    }
+    if payload.len() != 4 + 16 * n {
+        return 7;
+    }
+    0
+}
+
+fn blocks_in(payload: &[u8]) -> usize
+    ensures { λ r. ⌜ r ≡ blocksIn (now (payload .entry)) ⌝ }
+{
+    if payload.len() < 4 {
+        return 0;
+    }
+    (payload.len() - 4) / 16
+}
+
+// 25, for a work buffer of so many bytes.
+pub fn judge_room(payload: &[u8], room: usize) -> u8
+    ensures { λ r. ⌜ r ≡ firstBroken (roomRule (now (payload .entry)) room ∷ []) ⌝ }
+{
+    if room < 16 * blocks_in(payload) {
+        return 25;
+    }
+    0
+}
+
+// The blocks deciphered, at the front of the work buffer; 25 where it is shorter.
+pub fn decipher(key: [u8; 16], nonce: [u8; 5], payload: &[u8], work: &mut [u8]) -> Written
+    ensures { λ r. ⌜ Stores (noRoom 0 (deciphered key nonce (now (payload .entry))) (now (work .entry)) ∷ []) 0
+        (deciphered key nonce (now (payload .entry))) (now (work .entry)) r (now (work .exit)) ⌝ }
+{
+    if payload.len() < 4 {
+        return Written::Wrote(0);
+    }
+    let packet_nonce = [payload[0], payload[1], payload[2]];
+    aes::apply_ctr(key, packet_nonce, nonce, &payload[4..], work)
+}
+
+// 11, 12 and 13, of the blocks of an encrypted UART message.
+pub fn judge_text(text: &[u8]) -> u8
+    ensures { λ r. ⌜ r ≡ firstBroken (lateRules (now (text .entry))) ⌝ }
+{
+    if wire::read_u32(text, 0) != 0xCAFEBABE {
+        return 11;
+    }
+    let size = wire::read_u16(text, 4) as usize;
+    if size < 2 {
+        return 12;
+    }
+    if not_least(text, 6 + size) {
+        return 12;
+    }
+    if all_zero(text, 6 + size) {
+        return 0;
+    }
+    13
+}
+
+// 11, 18 and 13, of the blocks of a characteristic packet.
+pub fn judge_characteristic(validation: [u8; 4], text: &[u8]) -> u8
+    ensures { λ r. ⌜ r ≡ firstBroken (characteristicRules validation (now (text .entry))) ⌝ }
+{
+    if starts_with(text, validation) {
+        let size = packet_size(text);
+        if not_least(text, 4 + size) {
+            return 18;
+        }
+        if all_zero(text, 4 + size) {
+            return 0;
+        }
+        return 13;
+    }
+    11
+}
+
+// The packet's length by its own size field.
+fn packet_size(text: &[u8]) -> usize
+    ensures { λ r. ⌜ (r ≡ packetSize (now (text .entry))) × (r ≤ 65540) ⌝ }
+{
+    5 + (wire::read_u16(text, 7) as usize)
+}
+
+fn starts_with(text: &[u8], front: [u8; 4]) -> bool
+    ensures { λ r. ⌜ r ≡ sameBytes (take 4 (now (text .entry))) front ⌝ }
+{
+    if text.len() < 4 {
+        return false;
+    }
+    if text[0] != front[0] {
+        return false;
+    }
+    if text[1] != front[1] {
+        return false;
+    }
+    if text[2] != front[2] {
+        return false;
+    }
+    text[3] == front[3]
+}
+
+fn not_least(text: &[u8], size: usize) -> bool
+    requires { ⌜ size ≤ 70000 ⌝ }
+    ensures { λ r. ⌜ r ≡ notLeast (now (text .entry)) size ⌝ }
+{
+    text.len() != 16 * ((size + 15) / 16)
+}
+
+// Whether the bytes from a place on are zero.
+fn all_zero(text: &[u8], from: usize) -> bool
+    ensures { λ r. ⌜ r ≡ allZero (drop from (now (text .entry))) ⌝ }
+{
+    let mut i = from;
+    while i < text.len() {
+        if text[i] != 0 {
+            return false;
+        }
+        i += 1;
+    }
+    true
+}
+
+// The message in the blocks of an encrypted UART message.
+pub fn message_in(text: &[u8]) -> &[u8]
+    ensures { λ r. ⌜ now r ≡ messageIn (now (text .entry)) ⌝ }
+{
+    stretch(text, 6, wire::read_u16(text, 4) as usize)
+}
+
+// The control packet in the blocks of a characteristic packet.
+pub fn packet_in(text: &[u8]) -> &[u8]
+    ensures { λ r. ⌜ now r ≡ packetIn (now (text .entry)) ⌝ }
+{
+    stretch(text, 4, packet_size(text))
+}
+
+// So many bytes from a place on, or as many as there are.
+fn stretch(s: &[u8], at: usize, len: usize) -> &[u8]
+    ensures { λ r. ⌜ now r ≡ take len (drop at (now (s .entry))) ⌝ }
+{
+    if s.len() < at {
+        return &s[0..0];
+    }
+    if s.len() - at < len {
+        return &s[at..];
+    }
+    &s[at..at + len]
+}
+
+// The first n bytes become zero, or as many as there are.
+pub fn clear(work: &mut [u8], n: usize)
+    ensures { λ r. ⌜ now (work .exit) ≡ cleared n (now (work .entry)) ⌝ }
+{
+    let end = least(n, work.len());
+    let mut i: usize = 0;
+    while i < end {
+        work[i] = 0;
+        i += 1;
+    }
+}
+
+fn least(a: usize, b: usize) -> usize
+    ensures { λ r. ⌜ r ≡ min a b ⌝ }
+{
+    if a < b { a } else { b }
+}

@@ -1,0 +1,161 @@
+// Sessions, connection sessions, keys and which of them serves a level in a mode.
+use access::Level;
+use access::LevelRead;
+use access::Mode;
+use units::Minutes;
+use units::Seconds;
+ghost use mathlib.Core.Path.{_≡_};
+ghost use Rattle.session.specs.Session.{noSession, withNonce, wholeMinutes, validAt, noConnection};
+ghost use Rattle.session.specs.Keys.{noKey, keyFor, keyForNumber};
+
+// The user's session: held is false where there is none.
+pub struct Session {
+    pub held: bool,
+    pub nonce: [u8; 5],
+    pub timeout: Minutes,
+    pub since: Seconds,
+}
+
+// A connection session, which does not run out.
+pub struct Connection {
+    pub held: bool,
+    pub nonce: [u8; 5],
+    pub validation: [u8; 4],
+}
+
+// A key that may be absent.
+pub struct Key {
+    pub held: bool,
+    pub bytes: [u8; 16],
+}
+
+pub struct Keys {
+    pub admin: Key,
+    pub member: Key,
+    pub basic: Key,
+    pub setup: Key,
+}
+
+// The one function that converts between the units, for `valid_at`: minutes that have passed whole. Downwards, so that no number overflows.
+fn whole_minutes(t: Seconds) -> Minutes
+    ensures { λ r. ⌜ r ≡ wholeMinutes t ⌝ }
+{
+    Minutes(t.0 / 60)
+}
+
+impl Session {
+    pub fn none() -> Session
+        ensures { λ r. ⌜ r ≡ noSession ⌝ }
+    {
+        Session {
+            held: false,
+            nonce: [0; 5],
+            timeout: Minutes(0),
+            since: Seconds(0),
+        }
+    }
+
+    // The session after a session nonce message is accepted.
+    pub fn with_nonce(self, nonce: [u8; 5], timeout: Minutes, now: Seconds) -> Session
+        ensures { λ r. ⌜ r ≡ withNonce self nonce timeout now ⌝ }
+    {
+        Session {
+            held: true,
+            nonce: nonce,
+            timeout: timeout,
+            since: now,
+        }
+    }
+
+    // Whether it has not run out. Whether there is one is another question.
+    pub fn valid_at(self, now: Seconds) -> bool
+        ensures { λ r. ⌜ r ≡ validAt self now ⌝ }
+    {
+        let since = self.since;
+        let timeout = self.timeout;
+        if now.0 < since.0 {
+            return false;
+        }
+        let passed = whole_minutes(Seconds(now.0 - since.0));
+        passed.0 < timeout.0
+    }
+}
+
+impl Connection {
+    pub fn none() -> Connection
+        ensures { λ r. ⌜ r ≡ noConnection ⌝ }
+    {
+        Connection {
+            held: false,
+            nonce: [0; 5],
+            validation: [0; 4],
+        }
+    }
+}
+
+impl Key {
+    pub fn none() -> Key
+        ensures { λ r. ⌜ r ≡ noKey ⌝ }
+    {
+        Key {
+            held: false,
+            bytes: [0; 16],
+        }
+    }
+}
+
+impl Keys {
+    // The key that serves a level in a mode, not held where none does.
+    pub fn serving(self, mode: Mode, level: Level) -> Key
+        ensures { λ r. ⌜ r ≡ keyFor self mode level ⌝ }
+    {
+        match mode {
+            Mode::Normal => self.in_normal(level),
+            Mode::Setup => self.in_setup(level),
+        }
+    }
+
+    fn in_normal(self, level: Level) -> Key
+        ensures { λ r. ⌜ r ≡ keyFor self Mode.Normal level ⌝ }
+    {
+        match level {
+            Level::Admin => {
+                let key = self.admin;
+                key
+            }
+            Level::Member => {
+                let key = self.member;
+                key
+            }
+            Level::Basic => {
+                let key = self.basic;
+                key
+            }
+            Level::Setup => Key::none(),
+        }
+    }
+
+    fn in_setup(self, level: Level) -> Key
+        ensures { λ r. ⌜ r ≡ keyFor self Mode.Setup level ⌝ }
+    {
+        match level {
+            Level::Admin => Key::none(),
+            Level::Member => Key::none(),
+            Level::Basic => Key::none(),
+            Level::Setup => {
+                let key = self.setup;
+                key
+            }
+        }
+    }
+
+    // The same for a level's number, as it stands in a packet.
+    pub fn serving_number(self, mode: Mode, number: u8) -> Key
+        ensures { λ r. ⌜ r ≡ keyForNumber self mode number ⌝ }
+    {
+        match access::level_of(number) {
+            LevelRead::Known(level) => self.serving(mode, level),
+            LevelRead::Unknown => Key::none(),
+        }
+    }
+}
