@@ -1,5 +1,4 @@
--- The printed box is the defined one at all 256 bytes, and what the definition calls an inverse is one: one test that is computed.
--- Assumes nothing.
+-- The printed box is the defined one at all 256 bytes, and the definition's inverse is one: a single computed test. Assumes nothing.
 use mathlib.Core.Path.{_≡_}
 use mathlib.Core.Bool.{Bool, true, false, _&&_}
 use Prim.Native.Nat.{ℕ, zero, suc, _<_}
@@ -9,7 +8,7 @@ use Rattle.wire.proofs.Table.{at, every}
 use Rattle.aes.specs.Field.{xtime, times, _•_}
 use Rattle.aes.specs.Box.{powers, inverse, turned, affine, subByte, printedBox}
 
--- 1 for what has an inverse
+-- 1, and 0 for 0, which has no inverse
 abbrev pub one : ℕ → ℕ
 one zero = 0
 one (suc a) = 1

@@ -1,4 +1,4 @@
--- What callers need of the cipher without its definition: 16 bytes. Assumes nothing.
+-- What callers need of the cipher, so that its definition stays shut. Assumes nothing.
 use mathlib.Core.Path.{_≡_, refl}
 use mathlib.Core.List.{List, []}
 use Prim.Native.Nat.{ℕ, _+_, _*_, _%_}
@@ -7,6 +7,11 @@ use Rattle.aes.specs.Field.{_⊕_}
 use Rattle.aes.specs.Box.{subByte}
 use Rattle.aes.specs.Cipher.{cell, toState, addRoundKey, rounds, from, roundKey, keyExpansion, cipherUnder, cipher}
 use Rattle.aes.proofs.Bytes.{Bytes, xor-byte, sub-byte, state-bytes, key-bytes}
+
+-- under the key's round keys
+pub cipher-is : (k b : List ℕ) → cipher k b ≡ cipherUnder (keyExpansion k) b
+unfolding cipher
+cipher-is k b = refl
 
 -- whatever the key and the block
 pub length-cipher : (k b : List ℕ) → length (cipher k b) ≡ 16

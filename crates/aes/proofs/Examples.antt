@@ -1,7 +1,6 @@
--- What the definitions give where FIPS 197, sections 4 and 5.1, works a value out. Assumes nothing.
+-- Values that FIPS 197 gives in its text, and a counter block, by computation. Assumes nothing.
 use mathlib.Core.Path.{_≡_, refl}
-use mathlib.Core.List.{List, [], _∷_}
-use Prim.Native.Nat.{ℕ}
+use mathlib.Core.List.{[], _∷_}
 use Rattle.aes.specs.Field.{xtime, times, _•_}
 use Rattle.aes.specs.Box.{subByte, affine, turned, inverse, powers}
 use Rattle.aes.specs.Cipher.{rcon}

@@ -1,12 +1,16 @@
 -- Counter mode keeps the length and undoes itself, for every key, nonce and list; and the turn of the loop that applies it. Assumes nothing.
-use mathlib.Core.Path.{_≡_, refl, sym, ap, ap₂, _∙_}
+use mathlib.Core.Path.{_≡_, refl, ap, ap₂, _∙_}
 use mathlib.Core.List.{List, [], _∷_, _++_, zipWith}
-use Prim.Native.Nat.{ℕ, zero, suc, _+_, _*_, _/_, _≤_, _<_, min}
+use Prim.Native.Nat.{ℕ, zero, suc, _+_, _*_, _≤_, _<_, min}
 use native.Mathlib.Nat.{not-suc-le-zero, le-of-suc-le-suc}
 use native.Mathlib.Numerals.{add-one}
 use native.Mathlib.Omega.{arith}
 use lib.ListN.{length, getD, take, drop, set, length-append, length-drop}
 use lib.Seq.{sets, getD-drop}
+use borrow.Author.Tests.{le-ltb}
+use Rattle.wire.specs.Writing.{Stores, noRoom}
+use Rattle.wire.specs.declared.Written.{Written}
+use Rattle.wire.specs.declared.Written.the-variants.{Wrote}
 use Rattle.wire.proofs.Xor.{xor-twice}
 use Rattle.wire.proofs.Lists.{sets-then, copy-more}
 use Rattle.aes.specs.Field.{_⊕_}
@@ -71,6 +75,14 @@ module _ (key pn sn : List ℕ) where
   pub ctr-twice : (s : List ℕ) → ctrOf key pn sn (ctrOf key pn sn s) ≡ s
   unfolding ctrOf
   ctr-twice s = rw (length-ctr s) (xors-twice s (keystream key pn sn (blocksFor (length s))) (enough s))
+
+  -- what `apply_ctr` answers and leaves where there is room
+  pub ctr-stored : (s room : List ℕ) {answer : Written} {after : List ℕ} → length s ≤ length room
+      → Stores (noRoom 0 (ctrOf key pn sn s) room ∷ []) 0 (ctrOf key pn sn s) room answer after
+      → (answer ≡ Wrote (length s)) × (after ≡ ctrOf key pn sn s ++ drop (length s) room)
+  ctr-stored s room h w =
+      let e : 0 + length (ctrOf key pn sn s) ≡ length s = omega (arith, length-ctr s) in
+      (w .answers ∙ rw (e, le-ltb _ _ h, length-ctr s), w .leaves ∙ rw (e, le-ltb _ _ h))
 
   -- ---- the loop over the blocks
   pub ctr-start : (s room : List ℕ) → room ≡ sets room 0 (xors s (keystream key pn sn 0))

@@ -1,4 +1,4 @@
-pub mod Examples
+mod Examples
 pub mod Linear
 pub mod Bytes
 pub mod Box

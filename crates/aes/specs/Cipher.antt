@@ -25,20 +25,24 @@ toState b = rows (λ r c. getD b (r + 4 * c) 0)
 abbrev pub ofState : List (List ℕ) → List ℕ
 ofState s = four (λ r. cell s r 0) ++ (four (λ r. cell s r 1) ++ (four (λ r. cell s r 2) ++ four (λ r. cell s r 3)))
 
--- ---- sections 5.1.1 to 5.1.4: the steps of a round
+-- ---- section 5.1: the steps of a round
 
+-- section 5.1.1
 abbrev pub subBytes : List (List ℕ) → List (List ℕ)
 subBytes s = rows (λ r c. subByte (cell s r c))
 
+-- section 5.1.2: row r goes r places to the left
 abbrev pub shiftRows : List (List ℕ) → List (List ℕ)
 shiftRows s = rows (λ r c. cell s r ((c + r) % 4))
 
+-- section 5.1.3: a byte of a column, from it and the three below it, counted round
 unfoldable pub mixed : ℕ → ℕ → ℕ → ℕ → ℕ
 mixed a b c d = 2 • a ⊕ 3 • b ⊕ c ⊕ d
 
 abbrev pub mixColumns : List (List ℕ) → List (List ℕ)
 mixColumns s = rows (λ r c. mixed (cell s r c) (cell s ((r + 1) % 4) c) (cell s ((r + 2) % 4) c) (cell s ((r + 3) % 4) c))
 
+-- section 5.1.4
 abbrev pub addRoundKey : List ℕ → List (List ℕ) → List (List ℕ)
 addRoundKey k s = rows (λ r c. cell s r c ⊕ getD k (r + 4 * c) 0)
 

@@ -1,7 +1,7 @@
 // AES-128 as FIPS 197 defines it.
 //
-// The box is a table of 256 bytes that is made once a call and lent to what substitutes bytes. What takes it asks that it is the box, so it stays in this
-// file and its child modules, and no public function takes it.
+// The box is a table that is made once a call and lent to what substitutes bytes. What takes it asks that it
+// is the box, so it is private to this file and the modules below it: no public function takes the table.
 mod ctr;
 mod steps;
 
@@ -40,42 +40,42 @@ fn box_table() -> [u8; 256]
 }
 
 // The substitution of a byte, section 5.1.1. Nothing else reads the table.
-fn sub_byte(t: &[u8; 256], b: u8) -> u8
-    requires { ⌜ now t ≡ printedBox ⌝ }
+fn sub_byte(table: &[u8; 256], b: u8) -> u8
+    requires { ⌜ now table ≡ printedBox ⌝ }
     ensures { λ r. ⌜ r ≡ subByte b ⌝ }
 {
-    t[b as usize]
+    table[b as usize]
 }
 
-fn sub_word(t: &[u8; 256], a: [u8; 4]) -> [u8; 4]
-    requires { ⌜ now t ≡ printedBox ⌝ }
+fn sub_word(table: &[u8; 256], a: [u8; 4]) -> [u8; 4]
+    requires { ⌜ now table ≡ printedBox ⌝ }
     ensures { λ r. ⌜ r ≡ subWord a ⌝ }
 {
     [
-        sub_byte(t, a[0]),
-        sub_byte(t, a[1]),
-        sub_byte(t, a[2]),
-        sub_byte(t, a[3]),
+        sub_byte(table, a[0]),
+        sub_byte(table, a[1]),
+        sub_byte(table, a[2]),
+        sub_byte(table, a[3]),
     ]
 }
 
-fn sub_state(t: &[u8; 256], s: [[u8; 4]; 4]) -> [[u8; 4]; 4]
-    requires { ⌜ now t ≡ printedBox ⌝ }
+fn sub_state(table: &[u8; 256], s: [[u8; 4]; 4]) -> [[u8; 4]; 4]
+    requires { ⌜ now table ≡ printedBox ⌝ }
     ensures { λ r. ⌜ r ≡ subBytes s ⌝ }
 {
     [
-        sub_word(t, s[0]),
-        sub_word(t, s[1]),
-        sub_word(t, s[2]),
-        sub_word(t, s[3]),
+        sub_word(table, s[0]),
+        sub_word(table, s[1]),
+        sub_word(table, s[2]),
+        sub_word(table, s[3]),
     ]
 }
 
 pub fn sub_bytes(s: [[u8; 4]; 4]) -> [[u8; 4]; 4]
     ensures { λ r. ⌜ r ≡ subBytes s ⌝ }
 {
-    let t = box_table();
-    sub_state(&t, s)
+    let table = box_table();
+    sub_state(&table, s)
 }
 
 // ---- section 5.2: key expansion
@@ -116,23 +116,23 @@ fn chain(k: [u8; 16], t: [u8; 4]) -> [u8; 16]
 }
 
 // The round key after k, by the round constant c.
-fn next_key(t: &[u8; 256], k: [u8; 16], c: u8) -> [u8; 16]
-    requires { ⌜ now t ≡ printedBox ⌝ }
+fn next_key(table: &[u8; 256], k: [u8; 16], c: u8) -> [u8; 16]
+    requires { ⌜ now table ≡ printedBox ⌝ }
     ensures { λ r. ⌜ r ≡ nextKey c k ⌝ }
 {
-    let w = sub_word(t, [k[13], k[14], k[15], k[12]]);
+    let w = sub_word(table, [k[13], k[14], k[15], k[12]]);
     chain(k, [c ^ w[0], w[1], w[2], w[3]])
 }
 
-fn expand_with(t: &[u8; 256], key: [u8; 16]) -> [[u8; 16]; 11]
-    requires { ⌜ now t ≡ printedBox ⌝ }
+fn expand_with(table: &[u8; 256], key: [u8; 16]) -> [[u8; 16]; 11]
+    requires { ⌜ now table ≡ printedBox ⌝ }
     ensures { λ r. ⌜ r ≡ keyExpansion key ⌝ }
 {
     let mut keys = [key; 11];
     let mut c: u8 = 1;
     let mut i: usize = 0;
     while i < 10 {
-        let k = next_key(t, keys[i], c);
+        let k = next_key(table, keys[i], c);
         c = xtime(c);
         i += 1;
         keys[i] = k;
@@ -144,37 +144,37 @@ fn expand_with(t: &[u8; 256], key: [u8; 16]) -> [[u8; 16]; 11]
 pub fn expand_key(key: [u8; 16]) -> [[u8; 16]; 11]
     ensures { λ r. ⌜ r ≡ keyExpansion key ⌝ }
 {
-    let t = box_table();
-    expand_with(&t, key)
+    let table = box_table();
+    expand_with(&table, key)
 }
 
 // ---- section 5.1: the cipher
 
-fn round(t: &[u8; 256], s: [[u8; 4]; 4], k: [u8; 16]) -> [[u8; 4]; 4]
-    requires { ⌜ now t ≡ printedBox ⌝ }
+fn round(table: &[u8; 256], s: [[u8; 4]; 4], k: [u8; 16]) -> [[u8; 4]; 4]
+    requires { ⌜ now table ≡ printedBox ⌝ }
     ensures { λ r. ⌜ r ≡ roundOf k s ⌝ }
 {
-    add_round_key(mix_columns(shift_rows(sub_state(t, s))), k)
+    add_round_key(mix_columns(shift_rows(sub_state(table, s))), k)
 }
 
-fn encrypt_with(t: &[u8; 256], keys: &[[u8; 16]; 11], block: [u8; 16]) -> [u8; 16]
-    requires { ⌜ now t ≡ printedBox ⌝ }
+fn encrypt_with(table: &[u8; 256], keys: &[[u8; 16]; 11], block: [u8; 16]) -> [u8; 16]
+    requires { ⌜ now table ≡ printedBox ⌝ }
     ensures { λ r. ⌜ r ≡ cipherUnder (now (keys .entry)) block ⌝ }
 {
     let mut s = add_round_key(to_state(block), keys[0]);
     let mut i: usize = 0;
     while i < 9 {
         i += 1;
-        let n = round(t, s, keys[i]);
+        let n = round(table, s, keys[i]);
         s = n;
     }
-    of_state(add_round_key(shift_rows(sub_state(t, s)), keys[10]))
+    of_state(add_round_key(shift_rows(sub_state(table, s)), keys[10]))
 }
 
 // A block enciphered under round keys.
 pub fn encrypt_block(keys: &[[u8; 16]; 11], block: [u8; 16]) -> [u8; 16]
     ensures { λ r. ⌜ r ≡ cipherUnder (now (keys .entry)) block ⌝ }
 {
-    let t = box_table();
-    encrypt_with(&t, keys, block)
+    let table = box_table();
+    encrypt_with(&table, keys, block)
 }

@@ -1,4 +1,4 @@
-// Runs the AES-128 vectors of FIPS 197 through the crate `aes`, and prints how many of them passed and each value that differs.
+// Runs the AES-128 vectors of FIPS 197 through the crate `aes`: prints how many passed, and each value that differs.
 mod vectors;
 
 use libc::STDOUT_FILENO;
@@ -45,8 +45,8 @@ fn compare_all(name: &[u8], got: &[[u8; 16]], wanted: &[[u8; 16]]) -> usize
     passed
 }
 
-// For each round the state at its start, after SubBytes, after ShiftRows and after MixColumns, and the round key. Round 10 has no MixColumns: the last
-// places are the round key and the block enciphered.
+// For each round the state at its start, after SubBytes, after ShiftRows and after MixColumns, and the round key.
+// Round 10 has no MixColumns: the last two places are its round key and the block enciphered.
 fn values(key: [u8; 16], input: [u8; 16]) -> [[u8; 16]; 50] {
     let keys = aes::expand_key(key);
     let mut all = [input; 50];
@@ -89,14 +89,26 @@ fn report(name: &[u8], got: &[[u8; 16]], wanted: &[[u8; 16]], what: &[u8])
     io::write_all(STDOUT_FILENO, what);
 }
 
+fn appendix_a1() {
+    let keys = vectors::A1_KEYS;
+    let got = aes::expand_key(keys[0]);
+    report(b"A.1", &got, &keys, b" round keys of four words passed\n");
+}
+
+fn appendix_b() {
+    let wanted = vectors::B_VALUES;
+    let got = values(vectors::B_KEY, vectors::B_INPUT);
+    report(b"B", &got, &wanted, b" values passed\n");
+}
+
+fn appendix_c1() {
+    let wanted = vectors::C1_VALUES;
+    let got = values(vectors::C1_KEY, vectors::C1_INPUT);
+    report(b"C.1", &got, &wanted, b" values passed\n");
+}
+
 fn main() {
-    let a1 = vectors::A1_KEYS;
-    let keys = aes::expand_key(a1[0]);
-    report(b"A.1", &keys, &a1, b" round keys of four words passed\n");
-    let b = vectors::B_VALUES;
-    let b_got = values(vectors::B_KEY, vectors::B_INPUT);
-    report(b"B", &b_got, &b, b" values passed\n");
-    let c1 = vectors::C1_VALUES;
-    let c1_got = values(vectors::C1_KEY, vectors::C1_INPUT);
-    report(b"C.1", &c1_got, &c1, b" values passed\n");
+    appendix_a1();
+    appendix_b();
+    appendix_c1();
 }

@@ -11,10 +11,10 @@ use Rattle.aes.proofs.encrypt_with.Statement.{statement}
 use Rattle.aes.proofs.encrypt_with.Tie as tie
 
 abbrev Inv-loop : tie.InvT-loop
-Inv-loop t keys s₀ i₀ s i = (i ≤ 9) × (s ≡ rounds keys s₀ i)
+Inv-loop table keys s₀ i₀ s i = (i ≤ 9) × (s ≡ rounds keys s₀ i)
 
 abbrev μ-loop : tie.MeasureT-loop
-μ-loop t keys s₀ i₀ s i = 9 - i
+μ-loop table keys s₀ i₀ s i = 9 - i
 
 loop-holds : tie.Need-loop-holds Inv-loop μ-loop
 unfolding rounds

@@ -14,11 +14,11 @@ use Rattle.aes.proofs.expand_with.Statement.{statement}
 use Rattle.aes.proofs.expand_with.Tie as tie
 
 abbrev Inv-loop : tie.InvT-loop
-Inv-loop t keys₀ c₀ i₀ keys c i =
+Inv-loop table keys₀ c₀ i₀ keys c i =
     (i ≤ 10) × (length keys ≡ 11) × (c ≡ rcon i) × ((j : ℕ) → j < i + 1 → getD keys j [] ≡ roundKey (getD keys₀ 0 []) j)
 
 abbrev μ-loop : tie.MeasureT-loop
-μ-loop t keys₀ c₀ i₀ keys c i = 10 - i
+μ-loop table keys₀ c₀ i₀ keys c i = 10 - i
 
 loop-holds : tie.Need-loop-holds Inv-loop μ-loop
 unfolding rcon roundKey

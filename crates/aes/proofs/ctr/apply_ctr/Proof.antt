@@ -14,11 +14,11 @@ use Rattle.aes.proofs.ctr.apply_ctr.Statement.{statement}
 use Rattle.aes.proofs.ctr.apply_ctr.Tie as tie
 
 abbrev Inv-loop : tie.InvT-loop
-Inv-loop pn sn src out₀ t keys blocks i₀ out i =
+Inv-loop pn sn src out₀ table keys blocks i₀ out i =
     (i ≤ blocks) × ((key : List ℕ) → keys ≡ keyExpansion key → out ≡ sets out₀ 0 (xors src (keystream key pn sn i))) × (length out ≡ length out₀)
 
 abbrev μ-loop : tie.MeasureT-loop
-μ-loop pn sn src out₀ t keys blocks i₀ out i = blocks - i
+μ-loop pn sn src out₀ table keys blocks i₀ out i = blocks - i
 
 loop-holds : tie.Need-loop-holds Inv-loop μ-loop
 loop-holds c =
