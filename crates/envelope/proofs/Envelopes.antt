@@ -16,6 +16,13 @@ use Rattle.aes.proofs.KeyStream.{length-ctr, ctr-twice}
 use Rattle.envelope.specs.Blocks.{padded, enveloped, blocksIn, deciphered, wrongLength}
 use Rattle.envelope.proofs.Bytes.{three}
 
+-- `blocksFor n` blocks hold n bytes, and fewer do not
+pub blocks-hold : (n : ℕ) → n ≤ 16 * blocksFor n
+blocks-hold n = omega arith
+
+pub blocks-least : (n k : ℕ) → n ≤ 16 * k → blocksFor n ≤ k
+blocks-least n k h = omega arith
+
 pub length-padded : (s : List ℕ) → length (padded s) ≡ 16 * blocksFor (length s)
 length-padded s =
     let k : ℕ = 16 * blocksFor (length s) - length s in

@@ -2,6 +2,7 @@
 mod opening;
 mod sealing;
 
+pub use opening::blocks_in;
 pub use opening::clear;
 pub use opening::decipher;
 pub use opening::judge_characteristic;

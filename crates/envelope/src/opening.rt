@@ -3,15 +3,15 @@ use crate::outside;
 use wire::Written;
 ghost use mathlib.Core.Path.{_≡_};
 ghost use mathlib.Core.List.{_∷_, []};
-ghost use Prim.Native.Nat.{_+_, _≤_, min};
-ghost use lib.ListN.{length, take, drop};
+ghost use Prim.Native.Nat.{_≤_, min};
+ghost use lib.ListN.{take, drop};
 ghost use Rattle.wire.specs.Rules.{firstBroken};
 ghost use Rattle.wire.specs.Writing.{Stores, noRoom};
 ghost use Rattle.envelope.specs.Blocks.{blocksIn, deciphered, lengthRule, roomRule, notLeast, allZero, cleared};
 ghost use Rattle.envelope.specs.Sealed.{lateRules, messageIn};
 ghost use Rattle.envelope.specs.Characteristic.{sameBytes, packetSize, characteristicRules, packetIn};
 
-// 7.
+// 7, of an encrypted wrapper payload or a characteristic packet.
 pub fn judge_length(payload: &[u8]) -> u8
     ensures { λ r. ⌜ r ≡ firstBroken (lengthRule (now (payload .entry)) ∷ []) ⌝ }
 {
@@ -25,7 +25,8 @@ pub fn judge_length(payload: &[u8]) -> u8
     0
 }
 
-fn blocks_in(payload: &[u8]) -> usize
+// n: how many blocks a payload holds.
+pub fn blocks_in(payload: &[u8]) -> usize
     ensures { λ r. ⌜ r ≡ blocksIn (now (payload .entry)) ⌝ }
 {
     if payload.len() < 4 {
@@ -44,7 +45,7 @@ pub fn judge_room(payload: &[u8], room: usize) -> u8
     0
 }
 
-// The blocks deciphered, at the front of the work buffer; 25 where it is shorter.
+// The payload's blocks deciphered, at the front of the work buffer; 25 where they do not fit.
 pub fn decipher(key: [u8; 16], nonce: [u8; 5], payload: &[u8], work: &mut [u8]) -> Written
     ensures { λ r. ⌜ Stores (noRoom 0 (deciphered key nonce (now (payload .entry))) (now (work .entry)) ∷ []) 0
         (deciphered key nonce (now (payload .entry))) (now (work .entry)) r (now (work .exit)) ⌝ }
@@ -100,6 +101,7 @@ fn packet_size(text: &[u8]) -> usize
     5 + (wire::read_u16(text, 7) as usize)
 }
 
+// Whether the first four bytes are these.
 fn starts_with(text: &[u8], front: [u8; 4]) -> bool
     ensures { λ r. ⌜ r ≡ sameBytes (take 4 (now (text .entry))) front ⌝ }
 {
@@ -118,6 +120,7 @@ fn starts_with(text: &[u8], front: [u8; 4]) -> bool
     text[3] == front[3]
 }
 
+// Whether the blocks are not the least number that holds so many bytes.
 fn not_least(text: &[u8], size: usize) -> bool
     requires { ⌜ size ≤ 70000 ⌝ }
     ensures { λ r. ⌜ r ≡ notLeast (now (text .entry)) size ⌝ }

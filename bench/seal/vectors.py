@@ -1,0 +1,76 @@
+#!/usr/bin/env python3
+"""Writes what crates/seal_vectors must print. The blocks come from AES-CTR of the package `cryptography`, and layout and refusals from document 01.
+
+    python3 bench/seal/vectors.py > crates/seal_vectors/stdout
+"""
+from cryptography.hazmat.primitives.ciphers import Cipher, algorithms, modes
+
+SESSION_NONCE = bytes([0x51, 0x52, 0x53, 0x54, 0x55])
+VALIDATION = bytes([0xD0, 0xD1, 0xD2, 0xD3])
+KEYS = {"admin": 0x10, "member": 0x30, "basic": 0x50, "setup": 0x70}
+LEVELS = {"admin": 0, "member": 1, "basic": 2, "setup": 100}
+
+
+def key(level):
+    return bytes(range(KEYS[level], KEYS[level] + 16))
+
+
+def serves(mode, level):
+    """level 100 has a key only in setup mode, levels 0, 1 and 2 only in normal mode"""
+    return (level == "setup") == (mode == "setup")
+
+
+def nonce(n):
+    return bytes([n % 256, n // 256, 0xA5])
+
+
+def fill(n):
+    return bytes((7 * i + n) % 256 for i in range(n))
+
+
+def image(level, number, n, text):
+    """packet nonce, key ID or level, blocks; the counter starts at 0: eight zero bytes behind the two nonces"""
+    text += bytes(-len(text) % 16)
+    counter = nonce(n) + SESSION_NONCE + bytes(8)
+    cipher = Cipher(algorithms.AES(key(level)), modes.CTR(counter)).encryptor()
+    return nonce(n) + bytes([number]) + cipher.update(text) + cipher.finalize()
+
+
+def show(name, n, sealed, limits, room, held):
+    if not limits[0] <= n <= limits[1]:
+        print(f"{name} {n}: refused 17")
+    elif room < len(sealed):
+        print(f"{name} {n}: refused 25")
+    elif not held:
+        print(f"{name} {n}: refused 10")
+    else:
+        print(f"{name} {n}: {sealed.hex()}")
+        print("opened")
+
+
+def message(n, room, mode):
+    text = (0xCAFEBABE).to_bytes(4, "little") + n.to_bytes(2, "little") + fill(n)
+    show("message", n, image("admin", 0, n, text), (2, 490), room, serves(mode, "admin"))
+
+
+def packet(n, mode, level):
+    size = max(n - 5, 0).to_bytes(2, "little")
+    bytes_ = fill(n)
+    bytes_ = (bytes_[:3] + size + bytes_[5:])[:n]
+    show("packet", n, image(level, LEVELS[level], n, VALIDATION + bytes_), (5, 492), 512, serves(mode, level))
+
+
+for n in (2, 10, 11, 26, 27, 490):
+    message(n, 512, "normal")
+message(1, 35, "setup")
+message(491, 35, "setup")
+message(11, 35, "setup")
+message(11, 36, "setup")
+packet(5, "normal", "admin")
+packet(12, "normal", "member")
+packet(13, "normal", "basic")
+packet(492, "setup", "setup")
+packet(4, "normal", "admin")
+packet(493, "normal", "admin")
+packet(5, "setup", "basic")
+packet(5, "normal", "setup")
