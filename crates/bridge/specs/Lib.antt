@@ -1,0 +1,5 @@
+pub mod Reply
+pub mod Place
+pub mod Opener
+pub mod Characteristic
+pub mod Opening

@@ -1,0 +1,139 @@
+// The opener of characteristic packets.
+use crate::CommandAnswer;
+use crate::Link;
+use crate::Place;
+use crate::blocks::block_refusal;
+use crate::replies::characteristic_refusal;
+use access::Access;
+use access::LevelRead;
+use control::ControlRead;
+use wire::Part;
+ghost use mathlib.Core.Path.{_≡_};
+ghost use mathlib.Core.List.{_++_};
+ghost use Prim.Native.Nat.{_+_, _*_, _≤_};
+ghost use lib.ListN.{length, drop};
+ghost use Rattle.wire.specs.Rules.{firstBroken};
+ghost use Rattle.access.specs.Level.{levelOf};
+ghost use Rattle.envelope.specs.Blocks.{blocksIn};
+ghost use Rattle.bridge.specs.Characteristic as specs;
+ghost use Rattle.bridge.specs.Opening as opening;
+
+// 10 and 8, or 0.
+fn connection_refusal(link: Link, level: u8) -> u8
+    ensures { λ r. ⌜ r ≡ firstBroken (specs.connectionRules link level) ⌝ }
+{
+    let keys = link.keys;
+    let mode = link.mode;
+    let key = keys.serving_number(mode, level);
+    if key.held {
+        let connection = link.connection;
+        if connection.held {
+            return 0;
+        }
+        return 8;
+    }
+    10
+}
+
+// What is refused of a packet before it is deciphered: 7, 25, 10, 8, or 0.
+fn entry_refusal(packet: &[u8], room: usize, link: Link) -> u8
+    ensures { λ r. ⌜ r ≡ firstBroken (specs.entryRules link room (now (packet .entry))) ⌝ }
+{
+    let early = block_refusal(packet, room);
+    if early != 0 {
+        return early;
+    }
+    connection_refusal(link, wire::byte_at(packet, 3))
+}
+
+// A level's access.
+fn access_for(level: u8) -> Access
+    ensures { λ r. ⌜ r ≡ specs.accessFor (levelOf level) ⌝ }
+{
+    match access::level_of(level) {
+        LevelRead::Known(l) => Access::Keyed(l),
+        LevelRead::Unknown => Access::Plain,
+    }
+}
+
+// The answer by what a packet was read as, and where it ends.
+fn answer_by(end: usize, read: ControlRead) -> CommandAnswer
+    requires { ⌜ 9 ≤ end ⌝ }
+    ensures { λ a. ⌜ a ≡ opening.commandAnswerBy end read ⌝ }
+{
+    match read {
+        ControlRead::Accepted(c) => CommandAnswer::Accepted(
+            c,
+            Place {
+                in_work: true,
+                part: Part {
+                    start: 9,
+                    len: end - 9,
+                },
+            },
+        ),
+        ControlRead::Refused(n) => CommandAnswer::Refused(characteristic_refusal(n)),
+    }
+}
+
+// Where a packet ends that stands behind the validation key.
+fn end_of(packet: &[u8]) -> usize
+    requires { ⌜ 4 + length (now packet) ≤ 18446744073709551615 ⌝ }
+    ensures { λ r. ⌜ r ≡ 4 + length (now (packet .entry)) ⌝ }
+{
+    4 + packet.len()
+}
+
+// What a packet deciphered to: 11, 18, 13, 19 to 24, or the command.
+fn read_text(text: &[u8], level: u8, link: Link) -> CommandAnswer
+    ensures { λ a. ⌜ a ≡ opening.commandTextAnswer link level (now (text .entry)) ⌝ }
+{
+    let connection = link.connection;
+    let validation = connection.validation;
+    let late = envelope::judge_characteristic(validation, text);
+    if late != 0 {
+        return CommandAnswer::Refused(characteristic_refusal(late));
+    }
+    let packet = envelope::packet_in(text);
+    let mode = link.mode;
+    answer_by(
+        end_of(packet),
+        control::read_command(packet, mode, access_for(level)),
+    )
+}
+
+// The blocks of a packet into the work buffer, which has room for them.
+fn decipher(packet: &[u8], link: Link, work: &mut [u8])
+    requires { ⌜ firstBroken (specs.entryRules link (length (now work)) (now packet)) ≡ 0 ⌝ }
+    ensures { λ _. ⌜ now (work .exit) ≡ specs.textOf link (now (packet .entry)) ++ drop (16 * blocksIn (now (packet .entry))) (now (work .entry)) ⌝ }
+{
+    let keys = link.keys;
+    let mode = link.mode;
+    let key = keys.serving_number(mode, wire::byte_at(packet, 3));
+    let bytes = key.bytes;
+    let connection = link.connection;
+    let nonce = connection.nonce;
+    envelope::decipher(bytes, nonce, packet, work);
+}
+
+// Opens a characteristic packet: the command and where its payload lies, or the refusal with its reply.
+pub fn open(packet: &[u8], link: Link, work: &mut [u8]) -> CommandAnswer
+    ensures { λ a. ⌜ (a ≡ specs.characteristicAnswerOf link (length (now (work .entry))) (now (packet .entry)))
+        × (now (work .exit) ≡ specs.characteristicWorkAfter link (now (packet .entry)) (now (work .entry))) ⌝ }
+{
+    let early = entry_refusal(packet, work.len(), link);
+    if early != 0 {
+        return CommandAnswer::Refused(characteristic_refusal(early));
+    }
+    decipher(packet, link, work);
+    let n = packet.len() - 4;
+    let blocks = Part { start: 0, len: n };
+    let answer = read_text(wire::part_of(work, blocks), wire::byte_at(packet, 3), link);
+    match answer {
+        CommandAnswer::Accepted(c, at) => CommandAnswer::Accepted(c, at),
+        CommandAnswer::Refused(r) => {
+            envelope::clear(work, n);
+            CommandAnswer::Refused(r)
+        }
+    }
+}

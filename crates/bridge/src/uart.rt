@@ -1,0 +1,232 @@
+// The opener of frames.
+use crate::Answer;
+use crate::Opened;
+use crate::Place;
+use crate::Setting;
+use crate::blocks::block_refusal;
+use crate::replies::refusal;
+use access::Level;
+use message::Form;
+use message::Message;
+use message::MessageRead;
+use session::Session;
+use wire::Part;
+ghost use mathlib.Core.Path.{_≡_};
+ghost use mathlib.Core.List.{_++_};
+ghost use Prim.Native.Nat.{_+_, _-_, _*_, _≤_};
+ghost use lib.ListN.{length, drop};
+ghost use Rattle.wire.specs.Rules.{firstBroken};
+ghost use Rattle.envelope.specs.Blocks.{blocksIn};
+ghost use Rattle.bridge.specs.Opener as specs;
+ghost use Rattle.bridge.specs.Opening as opening;
+
+// The session after an accepted message: only a session nonce changes it.
+fn session_by(setting: Setting, m: Message) -> Session
+    ensures { λ s. ⌜ s ≡ specs.sessionBy setting m ⌝ }
+{
+    let session = setting.session;
+    match m {
+        Message::Hello(_) => session,
+        Message::SessionNonce(f) => {
+            let n = f.nonce;
+            session.with_nonce([n.0, n.1, n.2, n.3, n.4], f.timeout, setting.time)
+        }
+        Message::Heartbeat(_) => session,
+        Message::Status(_) => session,
+        Message::GetMac => session,
+        Message::Control(_) => session,
+        Message::HubReply(_) => session,
+    }
+}
+
+fn session_after(setting: Setting, answer: Answer) -> Session
+    ensures { λ s. ⌜ s ≡ specs.sessionAfter setting answer ⌝ }
+{
+    match answer {
+        Answer::Accepted(m, _) => session_by(setting, m),
+        Answer::Refused(_) => {
+            let session = setting.session;
+            session
+        }
+    }
+}
+
+// How many bytes stand from a place on, of so many.
+fn left(start: usize, end: usize) -> usize
+    ensures { λ r. ⌜ r ≡ end - start ⌝ }
+{
+    if end < start {
+        return 0;
+    }
+    end - start
+}
+
+// The answer by what a message was read as.
+fn answer_by(in_work: bool, start: usize, end: usize, read: MessageRead) -> Answer
+    requires { ⌜ start ≤ 6 ⌝ }
+    ensures { λ a. ⌜ a ≡ opening.answerBy «in_work» start end read ⌝ }
+{
+    match read {
+        MessageRead::Accepted(m) => {
+            let begin = start + (2 + message::parts_at(m));
+            let len = left(begin, end);
+            Answer::Accepted(
+                m,
+                Place {
+                    in_work,
+                    part: Part { start: begin, len },
+                },
+            )
+        }
+        MessageRead::Refused(n) => Answer::Refused(refusal(n)),
+    }
+}
+
+// A plain message: 7, 14 to 24, or what it says.
+fn open_plain(payload: &[u8], setting: Setting) -> Answer
+    ensures { λ a. ⌜ a ≡ opening.plainAnswer setting (now (payload .entry)) ⌝ }
+{
+    if payload.len() < 2 {
+        return Answer::Refused(refusal(7));
+    }
+    if 507 < payload.len() {
+        return Answer::Refused(refusal(7));
+    }
+    let mode = setting.mode;
+    answer_by(
+        false,
+        0,
+        payload.len(),
+        message::read_message(payload, Form::Plain, setting.required, mode),
+    )
+}
+
+// 10, 8 and 9, or 0.
+fn session_refusal(setting: Setting, id: u8) -> u8
+    ensures { λ r. ⌜ r ≡ firstBroken (specs.sessionRules setting id) ⌝ }
+{
+    if id != 0 {
+        return 10;
+    }
+    let keys = setting.keys;
+    let mode = setting.mode;
+    let key = keys.serving(mode, Level::Admin);
+    if key.held {
+        let session = setting.session;
+        if session.held {
+            if session.valid_at(setting.time) {
+                return 0;
+            }
+            return 9;
+        }
+        return 8;
+    }
+    10
+}
+
+// What is refused of an encrypted message before it is deciphered: 7, 25, 10, 8, 9, or 0.
+fn entry_refusal(payload: &[u8], room: usize, setting: Setting) -> u8
+    ensures { λ r. ⌜ r ≡ firstBroken (specs.entryRules setting room (now (payload .entry))) ⌝ }
+{
+    let early = block_refusal(payload, room);
+    if early != 0 {
+        return early;
+    }
+    session_refusal(setting, wire::byte_at(payload, 3))
+}
+
+// Where a message ends that stands behind CAFEBABE and its size.
+fn end_of(m: &[u8]) -> usize
+    requires { ⌜ 6 + length (now m) ≤ 18446744073709551615 ⌝ }
+    ensures { λ r. ⌜ r ≡ 6 + length (now (m .entry)) ⌝ }
+{
+    6 + m.len()
+}
+
+// What an encrypted message deciphered to: 11 to 24, or what it says.
+fn read_text(text: &[u8], setting: Setting) -> Answer
+    ensures { λ a. ⌜ a ≡ opening.textAnswer setting (now (text .entry)) ⌝ }
+{
+    let late = envelope::judge_text(text);
+    if late != 0 {
+        return Answer::Refused(refusal(late));
+    }
+    let m = envelope::message_in(text);
+    let mode = setting.mode;
+    answer_by(
+        true,
+        6,
+        end_of(m),
+        message::read_message(m, Form::Encrypted, setting.required, mode),
+    )
+}
+
+// The blocks of an encrypted message into the work buffer, which has room for them.
+fn decipher(payload: &[u8], setting: Setting, work: &mut [u8])
+    requires { ⌜ firstBroken (specs.entryRules setting (length (now work)) (now payload)) ≡ 0 ⌝ }
+    ensures { λ _. ⌜ now (work .exit) ≡ specs.textOf setting (now (payload .entry)) ++ drop (16 * blocksIn (now (payload .entry))) (now (work .entry)) ⌝ }
+{
+    let keys = setting.keys;
+    let mode = setting.mode;
+    let key = keys.serving(mode, Level::Admin);
+    let bytes = key.bytes;
+    let session = setting.session;
+    let nonce = session.nonce;
+    envelope::decipher(bytes, nonce, payload, work);
+}
+
+// An encrypted message.
+fn open_sealed(payload: &[u8], setting: Setting, work: &mut [u8]) -> Answer
+    ensures { λ a. ⌜ (a ≡ opening.sealedAnswer setting (length (now (work .entry))) (now (payload .entry)))
+        × (now (work .exit) ≡ opening.sealedWork setting (now (payload .entry)) (now (work .entry))) ⌝ }
+{
+    let early = entry_refusal(payload, work.len(), setting);
+    if early != 0 {
+        return Answer::Refused(refusal(early));
+    }
+    decipher(payload, setting, work);
+    let n = payload.len() - 4;
+    let blocks = Part { start: 0, len: n };
+    let answer = read_text(wire::part_of(work, blocks), setting);
+    match answer {
+        Answer::Accepted(m, at) => Answer::Accepted(m, at),
+        Answer::Refused(r) => {
+            envelope::clear(work, n);
+            Answer::Refused(r)
+        }
+    }
+}
+
+// A frame's answer.
+fn open_frame(major: u8, wrapper: u8, payload: &[u8], setting: Setting, work: &mut [u8]) -> Answer
+    ensures { λ a. ⌜ (a ≡ specs.answerOf setting (length (now (work .entry))) major wrapper (now (payload .entry)))
+        × (now (work .exit) ≡ specs.workAfter setting major wrapper (now (payload .entry)) (now (work .entry))) ⌝ }
+{
+    if major != 1 {
+        return Answer::Refused(refusal(5));
+    }
+    if wrapper == 128 {
+        return open_sealed(payload, setting, work);
+    }
+    if wrapper != 0 {
+        return Answer::Refused(refusal(6));
+    }
+    open_plain(payload, setting)
+}
+
+// Opens a frame: the message and where its payload lies, or the refusal with its reply; and the session after it. Any minor is accepted.
+pub fn open(
+    major: u8,
+    minor: u8,
+    wrapper: u8,
+    payload: &[u8],
+    setting: Setting,
+    work: &mut [u8],
+) -> Opened
+    ensures { λ r. ⌜ (r ≡ specs.opened setting (length (now (work .entry))) major wrapper (now (payload .entry)))
+        × (now (work .exit) ≡ specs.workAfter setting major wrapper (now (payload .entry)) (now (work .entry))) ⌝ }
+{
+    let answer = open_frame(major, wrapper, payload, setting, work);
+    let session = session_after(setting, answer);
+    Opened { answer, session }
+}

@@ -1,0 +1,26 @@
+-- `find` meets its contract. Assumes nothing.
+use Prim.Native.Nat.{_≤_, _-_}
+use lib.ListN.{length}
+use borrow.Author.Needs.{needs}
+use Rattle.packet_cases.proofs.text.find.Statement.{statement}
+use Rattle.packet_cases.proofs.text.find.Tie as tie
+
+abbrev Inv-loop : tie.InvT-loop
+Inv-loop s from b at₀ at = from ≤ at
+
+abbrev μ-loop : tie.MeasureT-loop
+μ-loop s from b at₀ at = length s - at
+
+pub find-spec : {M : Type 1} → statement M
+find-spec =
+    tie.close
+    (tie.spec
+    Inv-loop
+    μ-loop
+    (λ c. search needs)
+    (λ c. search needs)
+    (λ c. search needs)
+    (λ c. search needs)
+    (λ c. search needs)
+    (λ c. search needs)
+    (λ c. search needs))

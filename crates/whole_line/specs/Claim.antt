@@ -1,0 +1,40 @@
+-- DEMAND 3: NO LINE CAN BE READ TWO WAYS. The statement; proofs/OneWay.antt proves it for every setting.
+use Prim.Native.Nat.{ℕ}
+use mathlib.Core.Path.{_≡_}
+use mathlib.Core.List.{List, [], _∷_, _++_}
+use lib.ListN.{length, drop}
+use Rattle.wire.specs.Choice.{pick}
+use Rattle.line.specs.Receive.{busy}
+use Rattle.line.specs.Line as line
+use Rattle.line.specs.declared.Receiver.{Receiver}
+use Rattle.bridge.specs.declared.Setting.{Setting}
+use Rattle.whole_line.specs.Listed.{Sent, items, Made, onLine, lineOf, AllWritten, Occasion, Ready, openings, AllGive}
+
+-- What becomes of a list of one message or more, from its first start byte on. r is the receiver as that byte finds it.
+pub record Read (g : Setting) (ts : List Sent) (r : Receiver) (at : ℕ → Occasion) : Type 0 where
+  -- given room, each is written, as one frame
+  pub writes : AllWritten g (items ts)
+  -- the line's first byte is the first frame's start byte
+  pub begins : lineOf g ts ≡ 0x7E ∷ drop 1 (lineOf g ts)
+  -- at that byte: 1 where a frame was unfinished, else nothing
+  pub starts : line.run (0x7E ∷ []) r ≡ pick (busy (r .progress)) (line.refusal 1 ∷ []) []
+  -- behind that byte: exactly those frames, in order, and nothing else
+  pub hands : line.run (drop 1 (lineOf g ts)) (line.after (0x7E ∷ []) r) ≡ line.framesOf (onLine g ts)
+  -- what is handed out from that byte on, opened in order, gives the messages, each its own
+  pub gives : AllGive (items ts) (openings g at 0 (g .session) (line.run (lineOf g ts) r))
+
+-- g: keys, mode, whether encryption is required, and the session in use.
+pub record OneWay (g : Setting) : Type 0 where
+  -- any list of permitted messages, whatever is strewn between and after them and whatever came before, whatever record the receiver is,
+  -- whatever the work buffers hold
+  pub read :
+      (t : Sent) (ts : List Sent) → Made g (t ∷ ts)
+      → (before : List ℕ) (r : Receiver) → length (r .store) ≡ 512
+      → (at : ℕ → Occasion) → Ready g at 0 (items (t ∷ ts))
+      → Read g (t ∷ ts) (line.after before r) at
+  -- two lists that make the same line, whatever is strewn in either, are the same: in length, and at each place in message, form and packet nonce
+  pub made :
+      (ts us : List Sent) → Made g ts → Made g us
+      → (before before′ : List ℕ) → line.NoStart before → line.NoStart before′
+      → before ++ lineOf g ts ≡ before′ ++ lineOf g us
+      → items ts ≡ items us
