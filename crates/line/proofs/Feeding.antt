@@ -1,15 +1,16 @@
 -- Many bytes at once are the bytes one by one. Assumes nothing.
 use mathlib.Core.Path.{_≡_, refl, sym, ap, ap₂, _∙_, subst}
 use mathlib.Core.List.{List, [], _∷_, _++_}
-use mathlib.Core.Bool.{Bool, true, false}
+use mathlib.Core.Bool.{Bool, true, false, _||_}
 use Prim.Native.Nat.{ℕ, suc, _+_, _-_, _≤_, _<_}
 use native.Mathlib.Numerals.{add-one}
 use native.Mathlib.Omega.{arith}
 use lib.ListN.{length, drop, getD, set, drop-of-length-le}
 use lib.Seq.{drop-cons, drop-drop}
-use borrow.Author.Tests.{ne-eqb}
+use lib.Dec.{eqb, ltb}
+use borrow.Author.Tests.{ne-eqb, eqb-false, ltb-false}
 use Rattle.wire.specs.Choice.{pick}
-use Rattle.wire.proofs.Choice.{true-false}
+use Rattle.wire.proofs.Choice.{true-false, or-fails}
 use Rattle.line.specs.Receive.{busy, reading, holding, stepOf}
 use Rattle.line.specs.Moves.{moveOf, takenMove, storedMove, keep, storeAfter, eventOf}
 use Rattle.line.specs.Feed.{fed, silent, Passes}
@@ -87,6 +88,12 @@ module _ (low got size : ℕ) (h2 : 2 ≤ got) (h5 : 5 ≤ size) (h512 : size �
       moved s st i (reading false low got size) (keep (reading true low got size)) (omega arith) (sym (ap (moveOf (reading false low got size)) e ∙ move-mark low got size h5 h512 counted)) refl
       ∙ moved s st (i + 1) (reading true low got size) (puts v) below (sym (m ∙ taken-puts false v)) refl
       ∙ ap (λ (n : ℕ). fed n (drop n s) (holding (reading false low (got + 1) size) (set st (got - 2) v))) k
+
+-- a byte that is not left to the step
+pub stays : (w got size : ℕ) {r : Bool} → r ≡ (eqb w 0 || ltb size got) → r ≡ false → (w ≡ 0 → ⊥) × (got ≤ size)
+stays w got size e h =
+    let o = or-fails (eqb w 0) (ltb size got) (sym e ∙ h) in
+    (eqb-false w 0 (o .0), ltb-false size got (o .1))
 
 -- progress inside a frame that is not after 5C
 pub skipped : (n : ℕ) (l st : List ℕ) (h : Progress) {f : Fed} → busy h ≡ true → h .escaped ≡ false

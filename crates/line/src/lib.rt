@@ -1,7 +1,8 @@
 // The receiver of a serial line. Its progress, flags and counts, goes by value through small functions; its store is written in one place.
 ghost use mathlib.Core.Path.{_≡_};
-ghost use mathlib.Core.Bool.{false};
+ghost use mathlib.Core.Bool.{false, _||_};
 ghost use Prim.Native.Nat.{_+_, _<_, _≤_};
+ghost use lib.Dec.{eqb, ltb};
 ghost use lib.ListN.{length, take, drop};
 ghost use Rattle.line.specs.Receive as specs;
 ghost use Rattle.line.specs.Feed as feeding;
@@ -399,6 +400,16 @@ fn unescape_at(s: &[u8], i: usize) -> Unescaped
     Unescaped { byte: 0, width: 0 }
 }
 
+// A byte of a frame that is left to the step: a start byte, a bad escape, or the frame's last byte.
+fn leaves(width: usize, got: usize, size: usize) -> bool
+    ensures { λ r. ⌜ r ≡ (eqb width 0 || ltb size got) ⌝ }
+{
+    if width == 0 {
+        return true;
+    }
+    size < got
+}
+
 // Bytes of a frame behind its size, up to its last, go into the store.
 fn body(store: &mut [u8; 512], low: u8, had: usize, size: usize, s: &[u8], from: usize) -> Ran
     requires { ⌜ (2 ≤ had) × (5 ≤ size) × (size ≤ 512) × (had < size + 2) ⌝ }
@@ -410,19 +421,7 @@ fn body(store: &mut [u8; 512], low: u8, had: usize, size: usize, s: &[u8], from:
     let mut i = from;
     while i < s.len() {
         let u = unescape_at(s, i);
-        if u.width == 0 {
-            return Ran {
-                progress: Progress {
-                    inside: true,
-                    escaped: false,
-                    low,
-                    got,
-                    size,
-                },
-                at: i,
-            };
-        }
-        if size < got {
+        if leaves(u.width, got, size) {
             return Ran {
                 progress: Progress {
                     inside: true,

@@ -6,6 +6,7 @@ use native.Mathlib.Omega.{arith}
 use lib.ListN.{length, drop}
 use Rattle.line.specs.Receive.{holding, reading}
 use Rattle.line.specs.Feed.{fed}
+use Rattle.line.proofs.Feeding.{stays}
 use Rattle.line.proofs.body.Statement.{statement}
 use Rattle.line.proofs.body.Tie as tie
 
@@ -20,25 +21,33 @@ abbrev μ-loop : tie.MeasureT-loop
 returns : tie.Need-returns Inv-loop μ-loop
 returns c = let v = c .before .before .before .before .loop .inv in (v .0, v .3)
 
-returns-2 : tie.Need-returns-2 Inv-loop μ-loop
-returns-2 c = let v = c .before .before .before .before .before .loop .inv in (v .0, v .3)
+-- a byte that goes into the store
+stayed : (c : tie.Else1 Inv-loop μ-loop)
+    → (c .before .before .unescape-at .result .width ≡ 0 → ⊥) × (c .before .before .before .before .loop .got ≤ c .before .before .before .before .before .before .args .size)
+stayed c = stays _ _ _ (c .before .leaves .ensures) (c .if1 .left)
+
+element-write-store : tie.Need-element-write-store Inv-loop μ-loop
+element-write-store c = omega (arith, stayed c .1)
 
 add-i : tie.Need-add-i Inv-loop μ-loop
-add-i c = omega (arith, c .before .before .before .before .unescape-at .ensures (c .before .before .if1 .left) .1)
+add-i c =
+    let w = stayed (c .before) in
+    omega (arith, c .before .before .before .unescape-at .ensures (w .0) .1)
 
 loop-less : tie.Need-loop-less Inv-loop μ-loop
-loop-less c = omega (arith, c .before .before .if1 .left)
+loop-less c = omega (arith, stayed (c .before) .0)
 
 loop-again : tie.Need-loop-again Inv-loop μ-loop
 loop-again c =
-    let l = c .before .before .before .before .before .before in
+    let l = c .before .before .before .before .before in
     let v = l .loop .inv in
     let p = l .before .before .pre in
-    let u = c .before .before .before .before .unescape-at .ensures (c .before .before .if1 .left) in
-    (omega arith, omega arith, omega arith, v .3 ∙ u .2 _ _ _ _ (v .1) (p .1) (p .2) (c .before .if2 .left))
+    let w = stayed (c .before) in
+    let u = c .before .before .before .unescape-at .ensures (w .0) in
+    (omega arith, omega arith, omega (arith, w .1), v .3 ∙ u .2 _ _ _ _ (v .1) (p .1) (p .2) (w .1))
 
-returns-3 : tie.Need-returns-3 Inv-loop μ-loop
-returns-3 c = let v = c .before .loop .inv in (v .0, v .3)
+returns-2 : tie.Need-returns-2 Inv-loop μ-loop
+returns-2 c = let v = c .before .loop .inv in (v .0, v .3)
 
 pub body-spec : {M : Type 1} → statement M
 body-spec =
@@ -48,12 +57,12 @@ body-spec =
     μ-loop
     (λ c. (omega arith, omega arith, omega arith, refl))
     (λ c κs. omega arith)
+    (λ c κs. tt)
     returns
-    returns-2
     (λ c. omega arith)
-    (λ c. omega arith)
+    element-write-store
     (λ c. omega arith)
     add-i
     loop-less
     loop-again
-    returns-3)
+    returns-2)
