@@ -112,13 +112,14 @@ pub fn read_command(packet: &[u8], mode: Mode, access: Access) -> ControlRead
     read_row(wire::read_u16(packet, 1), payload(packet), mode, access)
 }
 
-fn payload(packet: &[u8]) -> &[u8]
-    ensures { λ r. ⌜ now r ≡ drop 5 (now (packet .entry)) ⌝ }
+// What stands behind the five bytes of protocol, command type and size.
+fn payload(p: &[u8]) -> &[u8]
+    ensures { λ r. ⌜ now r ≡ drop 5 (now (p .entry)) ⌝ }
 {
-    if packet.len() < 5 {
-        return &packet[0..0];
+    if p.len() < 5 {
+        return &p[0..0];
     }
-    &packet[5..]
+    &p[5..]
 }
 
 // The table of commands: number, marks, payload.

@@ -8,10 +8,10 @@ use Rattle.control.proofs.payload.Statement.{statement}
 use Rattle.control.proofs.payload.Tie as tie
 
 returns : tie.Need-returns
-returns c = sym (drop-of-length-le (c .before .before .args .packet .now) {i = 5} (omega arith))
+returns c = sym (drop-of-length-le (c .before .before .args .p .now) {i = 5} (omega arith))
 
 returns-2 : tie.Need-returns-2
-returns-2 c = to-end (c .before .before .args .packet .now) 5
+returns-2 c = to-end (c .before .before .args .p .now) 5
 
 pub payload-spec : {M : Type 1} → statement M
 payload-spec =
