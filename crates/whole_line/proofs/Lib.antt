@@ -1,2 +1,4 @@
 pub mod Items
 pub mod OneWay
+pub mod Bench
+pub mod Permits
