@@ -2,3 +2,4 @@ pub mod Items
 pub mod OneWay
 pub mod Bench
 pub mod Permits
+pub mod Example
