@@ -4,13 +4,13 @@ use mathlib.Core.Bool.{true, false}
 use mathlib.Core.List.{List, [], _∷_, _++_}
 use Prim.Native.Nat.{ℕ, _+_, _*_, _≤_}
 use native.Mathlib.Omega.{arith}
-use lib.ListN.{length, replicate}
+use lib.ListN.{replicate}
 use Rattle.wire.specs.Parts.{partOf}
 use Rattle.crc.specs.Crc.{crcFrom, crcByte, crcBit}
 use Rattle.frame.specs.Image.{escape, escapeByte, isMark}
 use Rattle.line.specs.Receive.{stepOf, busy, inFrame, unescaped, taken, stored, sized, finished, reading, holding}
 use Rattle.line.specs.Line as line
-use Rattle.line.specs.Line.{Seen, refusal, frame, run, after}
+use Rattle.line.specs.Line.{refusal, frame, run, after}
 use Rattle.line.specs.declared.Receiver.{Receiver}
 use Rattle.access.specs.declared.Mode.the-variants.{Normal}
 use Rattle.session.specs.Session.{validAt}
@@ -21,7 +21,7 @@ use Rattle.bridge.specs.Opener.{plainRules, openRules, answerOf, opened, workAf
 use Rattle.bridge.specs.Place.{payloadOf}
 use Rattle.bridge.specs.declared.Setting.{Setting}
 use Rattle.whole_line.specs.Told.{Told, says}
-use Rattle.whole_line.specs.Listed.{Item, plain, sealed, Sent, items, Permitted, Sealable, Made, wrapped, lineOf, Occasion, Ready, Opening, openings}
+use Rattle.whole_line.specs.Listed.{plain, sealed, Sent, items, Made, wrapped, lineOf, Occasion, Ready, Opening, openings}
 use Rattle.whole_line.specs.Claim.{Read}
 use Rattle.whole_line.proofs.OneWay.{no-line-two-ways}
 

@@ -3,3 +3,4 @@ pub mod OneWay
 pub mod Bench
 pub mod Permits
 pub mod Example
+pub mod Needed

@@ -2,7 +2,7 @@
 -- Assumes nothing.
 use mathlib.Core.Path.{_≡_, refl, sym}
 use mathlib.Core.Bool.{Bool, true, false, not, _&&_}
-use mathlib.Core.List.{List, [], _∷_, _++_}
+use mathlib.Core.List.{List, [], _∷_}
 use Prim.Native.Nat.{ℕ}
 use lib.ListN.{length, replicate}
 use lib.Dec.{leb, eqb}
@@ -17,7 +17,7 @@ use Rattle.message.specs.declared.Form.the-variants.{Plain, Encrypted}
 use Rattle.session.specs.Keys.{noKey}
 use Rattle.bridge.specs.declared.Setting.{Setting}
 use Rattle.whole_line.specs.Told.{Told, dataType, toldOf}
-use Rattle.whole_line.specs.Listed.{Item, plain, sealed, messageOf, Permitted, Sealable, Allowed}
+use Rattle.whole_line.specs.Listed.{Item, plain, sealed, messageOf, Permitted, Allowed}
 use Rattle.whole_line.specs.Bench.{packetOf}
 
 -- an admin key and a session, a mode, and whether encryption is required
