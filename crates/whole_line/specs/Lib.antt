@@ -1,3 +1,4 @@
 pub mod Told
 pub mod Listed
 pub mod Claim
+pub mod Bench
