@@ -2,7 +2,7 @@
 use mathlib.Core.Path.{_≡_, refl, _∙_}
 use Prim.Native.Nat.{ℕ}
 use native.Mathlib.Omega.{arith}
-use Rattle.wire.proofs.Lookup.{lookup-all}
+use Rattle.wire.proofs.Lookup.{lookup-all, _also_}
 use Rattle.access.specs.Level.{levelNumber, levels, levelOf}
 use Rattle.access.specs.declared.Level.{Level}
 use Rattle.access.specs.declared.Level.the-variants.{Admin, Member, Basic, Setup}
@@ -24,16 +24,9 @@ same k l e = let d : k ≡ l = cc in rw d
 
 pub level-read : (n : ℕ) (l : Level) → levelOf n ≡ Known l → n ≡ levelNumber l
 level-read n =
-    lookup-all levelNumber Known Unknown (Has n) levels n (
-      λ h l e. h ∙ same Admin l e,
-      (
-        λ h l e. h ∙ same Member l e,
-        (
-          λ h l e. h ∙ same Basic l e,
-          (
-            λ h l e. h ∙ same Setup l e,
-            λ l e. absurd (let z : _≡_ {A = ℕ} 0 1 = cc in omega arith),
-          ),
-        ),
-      ),
-    )
+    lookup-all levelNumber Known Unknown (Has n) levels n
+    ((λ h l e. h ∙ same Admin l e)
+    also (λ h l e. h ∙ same Member l e)
+    also (λ h l e. h ∙ same Basic l e)
+    also (λ h l e. h ∙ same Setup l e)
+    also (λ l e. absurd (let z : _≡_ {A = ℕ} 0 1 = cc in omega arith)))

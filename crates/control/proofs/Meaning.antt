@@ -14,7 +14,7 @@ use Rattle.wire.specs.Fields.{Layout, valuesAt, widths, wrongSize, wrongAt, wro
 use Rattle.wire.proofs.Choice.{or-fails, true-false}
 use Rattle.wire.proofs.Fields.{part-end}
 use Rattle.wire.proofs.Lists.{part-in, nil-of}
-use Rattle.wire.proofs.Lookup.{lookup-all}
+use Rattle.wire.proofs.Lookup.{lookup-all, _also_}
 use Rattle.control.specs.Command.{commandNumber, commandValues, commandBytes}
 use Rattle.control.specs.Table.{Row, table, noRow, rowOf, state}
 use Rattle.control.specs.Control.{commandOf}
@@ -52,43 +52,18 @@ module _ (q : List ℕ) where
   -- each row's command says what the row reads
   pub row-says : (n : ℕ) → Claim q n (rowOf n)
   row-says n =
-      lookup-all (λ (r : Row). r .number) (λ (r : Row). r) noRow (Claim q n) table n (
-        λ e l z f. record { number = sym e; values = refl; bytes = setup-bytes (ltb-false _ _ z) },
-        (
-          λ e l z f. record { number = sym e; values = ap (λ (v : ℕ). v ∷ []) (only (num 4 0 q) 0xDEADBEEF false (or-fails _ false f .0)); bytes = none-behind q 4 z },
-          (
-            λ e l z f. record { number = sym e; values = ap (λ (v : ℕ). num 2 0 q ∷ num 2 2 q ∷ getD q 4 0 ∷ v ∷ []) (reserved 2 f); bytes = none-behind q 6 z },
-            (
-              λ e l z f. record { number = sym e; values = ap (λ (v : ℕ). num 2 0 q ∷ num 2 2 q ∷ getD q 4 0 ∷ v ∷ []) (reserved 1 f); bytes = part-end q 6 (ltb-false _ _ z) },
-              (
-                λ e l z f. record { number = sym e; values = refl; bytes = none-behind q 0 z },
-                (
-                  λ e l z f. record { number = sym e; values = refl; bytes = none-behind q 0 z },
-                  (
-                    λ e l z f. record { number = sym e; values = refl; bytes = none-behind q 7 z },
-                    (
-                      λ e l z f. record { number = sym e; values = refl; bytes = none-behind q 0 z },
-                      (
-                        λ e l z f. record { number = sym e; values = refl; bytes = none-behind q 0 z },
-                        (
-                          λ e l z f. record { number = sym e; values = refl; bytes = none-behind q 0 z },
-                          (
-                            λ e l z f. record { number = sym e; values = refl; bytes = none-behind q 0 z },
-                            (
-                              λ e l z f. record { number = sym e; values = refl; bytes = none-behind q 1 z },
-                              (
-                                λ e l z f. record { number = sym e; values = refl; bytes = part-end q 1 (omega (arith, eqb-true (length q) (1 + 2 * getD q 0 0) (not-false _ z))) },
-                                λ l z f. true-false (sym l),
-                              ),
-                            ),
-                          ),
-                        ),
-                      ),
-                    ),
-                  ),
-                ),
-              ),
-            ),
-          ),
-        ),
-      )
+      lookup-all (λ (r : Row). r .number) (λ (r : Row). r) noRow (Claim q n) table n
+      ((λ e l z f. record { number = sym e; values = refl; bytes = setup-bytes (ltb-false _ _ z) })
+      also (λ e l z f. record { number = sym e; values = ap (λ (v : ℕ). v ∷ []) (only (num 4 0 q) 0xDEADBEEF false (or-fails _ false f .0)); bytes = none-behind q 4 z })
+      also (λ e l z f. record { number = sym e; values = ap (λ (v : ℕ). num 2 0 q ∷ num 2 2 q ∷ getD q 4 0 ∷ v ∷ []) (reserved 2 f); bytes = none-behind q 6 z })
+      also (λ e l z f. record { number = sym e; values = ap (λ (v : ℕ). num 2 0 q ∷ num 2 2 q ∷ getD q 4 0 ∷ v ∷ []) (reserved 1 f); bytes = part-end q 6 (ltb-false _ _ z) })
+      also (λ e l z f. record { number = sym e; values = refl; bytes = none-behind q 0 z })
+      also (λ e l z f. record { number = sym e; values = refl; bytes = none-behind q 0 z })
+      also (λ e l z f. record { number = sym e; values = refl; bytes = none-behind q 7 z })
+      also (λ e l z f. record { number = sym e; values = refl; bytes = none-behind q 0 z })
+      also (λ e l z f. record { number = sym e; values = refl; bytes = none-behind q 0 z })
+      also (λ e l z f. record { number = sym e; values = refl; bytes = none-behind q 0 z })
+      also (λ e l z f. record { number = sym e; values = refl; bytes = none-behind q 0 z })
+      also (λ e l z f. record { number = sym e; values = refl; bytes = none-behind q 1 z })
+      also (λ e l z f. record { number = sym e; values = refl; bytes = part-end q 1 (omega (arith, eqb-true (length q) (1 + 2 * getD q 0 0) (not-false _ z))) })
+      also (λ l z f. true-false (sym l)))

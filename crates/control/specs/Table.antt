@@ -5,7 +5,7 @@ use mathlib.Core.List.{List, [], _∷_}
 use lib.ListN.{getD}
 use Rattle.wire.specs.Lookup.{lookup}
 use Rattle.wire.specs.Parts.{part}
-use Rattle.wire.specs.Fields.{Layout, layout, exactly, atLeast, pairs, any, upTo, is, free, seconds}
+use Rattle.wire.specs.Fields.{Field, Layout, layout, exactly, atLeast, pairs, any, upTo, is, free, seconds}
 use Rattle.access.specs.declared.Mode.{Mode}
 use Rattle.access.specs.declared.Mode.the-variants.{Normal, Setup as SetupMode}
 use Rattle.access.specs.declared.Access.{Access}
@@ -61,7 +61,7 @@ abbrev pub none : Layout
 none = layout (exactly 0) [] free
 
 -- get state's and set state's type, id and mode up to a limit, and the reserved 0
-abbrev pub state : ℕ → List Rattle.wire.specs.Fields.Field
+abbrev pub state : ℕ → List Field
 state most = any 2 ∷ any 2 ∷ upTo 1 most ∷ is 1 0 ∷ []
 
 abbrev pub table : List Row

@@ -8,7 +8,8 @@ use crate::SetStateFields;
 use crate::SetupFields;
 use wire::Part;
 ghost use mathlib.Core.Path.{_≡_};
-ghost use Rattle.control.specs.Table.{rowOf};
+ghost use Rattle.wire.specs.Fields.{wrongAt};
+ghost use Rattle.control.specs.Table.{rowOf, state};
 ghost use Rattle.control.specs.Control.{readPayload, readNone};
 
 pub fn setup(q: &[u8]) -> ControlRead
@@ -40,24 +41,32 @@ pub fn factory_reset(q: &[u8]) -> ControlRead
     ControlRead::Accepted(Command::FactoryReset)
 }
 
+// Whether a state's mode is above a limit, or what is reserved behind it is not 0.
+fn state_wrong(q: &[u8], most: u8) -> bool
+    ensures { λ r. ⌜ r ≡ wrongAt (state most) 0 (now (q .entry)) ⌝ }
+{
+    if most < wire::byte_at(q, 4) {
+        return true;
+    }
+    if wire::byte_at(q, 5) != 0 {
+        return true;
+    }
+    false
+}
+
 pub fn get_state(q: &[u8]) -> ControlRead
     ensures { λ r. ⌜ r ≡ readPayload (rowOf 2) (now (q .entry)) ⌝ }
 {
     if q.len() != 6 {
         return ControlRead::Refused(23);
     }
-    let mode = q[4];
-    if 2 < mode {
-        return ControlRead::Refused(24);
-    }
-    let reserved = q[5];
-    if reserved != 0 {
+    if state_wrong(q, 2) {
         return ControlRead::Refused(24);
     }
     ControlRead::Accepted(Command::GetState(GetStateFields {
         kind: wire::read_u16(q, 0),
         id: wire::read_u16(q, 2),
-        mode,
+        mode: q[4],
     }))
 }
 
@@ -67,18 +76,13 @@ pub fn set_state(q: &[u8]) -> ControlRead
     if q.len() < 6 {
         return ControlRead::Refused(23);
     }
-    let mode = q[4];
-    if 1 < mode {
-        return ControlRead::Refused(24);
-    }
-    let reserved = q[5];
-    if reserved != 0 {
+    if state_wrong(q, 1) {
         return ControlRead::Refused(24);
     }
     ControlRead::Accepted(Command::SetState(SetStateFields {
         kind: wire::read_u16(q, 0),
         id: wire::read_u16(q, 2),
-        mode,
+        mode: q[4],
         value: Part {
             start: 6,
             len: q.len() - 6,

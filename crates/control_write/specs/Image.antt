@@ -6,6 +6,8 @@ use lib.ListN.{length}
 use lib.Dec.{ltb}
 use Rattle.wire.specs.Numbers.{le}
 use Rattle.wire.specs.Fields.{bodyOf, unreadable}
+use Rattle.wire.specs.Writing.{Writes}
+use Rattle.wire.specs.declared.Written.{Written}
 use Rattle.control.specs.Command.{commandNumber, commandValues, commandParts}
 use Rattle.control.specs.Table.{Row, rowOf}
 use Rattle.control.specs.declared.Command.{Command}
@@ -37,3 +39,7 @@ commandBad c s =
 -- or longer than a limit
 abbrev pub badWithin : ℕ → Command → List ℕ → Bool
 badWithin limit c s = commandBad c s || ltb limit (length (payloadOf c s))
+
+-- a packet behind other bytes, its payload within a limit: what the writer answers and leaves
+abbrev pub WritesBehind : List ℕ → ℕ → Command → List ℕ → List ℕ → Written → List ℕ → Type 0
+WritesBehind front limit c s room answer after = Writes (badWithin limit c s) (front ++ controlImage c s) room answer after

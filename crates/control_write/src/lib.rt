@@ -3,9 +3,8 @@ mod payloads;
 
 use control::Command;
 use wire::Written;
-ghost use mathlib.Core.List.{_++_};
 ghost use Rattle.wire.specs.Writing.{Writes};
-ghost use Rattle.control_write.specs.Image.{controlImage, commandBad, badWithin};
+ghost use Rattle.control_write.specs.Image.{controlImage, commandBad, WritesBehind};
 
 // A command's packet. Its parts name bytes of `bytes`.
 pub fn write_control(c: Command, bytes: &[u8], out: &mut [u8]) -> Written
@@ -16,7 +15,7 @@ pub fn write_control(c: Command, bytes: &[u8], out: &mut [u8]) -> Written
 
 // The same behind other bytes, with a payload up to a limit.
 pub fn write_behind(front: &[u8], limit: usize, c: Command, bytes: &[u8], out: &mut [u8]) -> Written
-    ensures { λ r. ⌜ Writes (badWithin limit c (now (bytes .entry))) (now (front .entry) ++ controlImage c (now (bytes .entry))) (now (out .entry)) r (now (out .exit)) ⌝ }
+    ensures { λ r. ⌜ WritesBehind (now (front .entry)) limit c (now (bytes .entry)) (now (out .entry)) r (now (out .exit)) ⌝ }
 {
     match c {
         Command::Setup(f) => payloads::setup(front, limit, f, bytes, out),

@@ -6,12 +6,14 @@ use control::SetStateFields;
 use control::SetupFields;
 use wire::Written;
 ghost use mathlib.Core.Bool.{_||_};
-ghost use mathlib.Core.List.{_++_, []};
+ghost use mathlib.Core.Path.{_≡_};
+ghost use mathlib.Core.List.{_++_, _∷_, []};
 ghost use lib.Dec.{ltb};
 ghost use lib.ListN.{length};
+ghost use Rattle.wire.specs.Numbers.{le};
 ghost use Rattle.wire.specs.Writing.{Writes};
 ghost use Rattle.control.specs.declared.Command.the-variants.{Setup, FactoryReset, GetState, SetState, IbeaconConfig, Switch, MultiSwitch};
-ghost use Rattle.control_write.specs.Image.{packet, controlImage, badWithin};
+ghost use Rattle.control_write.specs.Image.{packet, WritesBehind};
 
 // A packet behind other bytes: its payload is fields and two slices, and at most a limit long.
 pub fn packet(
@@ -50,7 +52,7 @@ pub fn packet(
 }
 
 pub fn setup(front: &[u8], limit: usize, f: SetupFields, bytes: &[u8], out: &mut [u8]) -> Written
-    ensures { λ r. ⌜ Writes (badWithin limit (Setup f) (now (bytes .entry))) (now (front .entry) ++ controlImage (Setup f) (now (bytes .entry))) (now (out .entry)) r (now (out .exit)) ⌝ }
+    ensures { λ r. ⌜ WritesBehind (now (front .entry)) limit (Setup f) (now (bytes .entry)) (now (out .entry)) r (now (out .exit)) ⌝ }
 {
     let keys = f.keys;
     let rest = f.rest;
@@ -76,11 +78,25 @@ pub fn setup(front: &[u8], limit: usize, f: SetupFields, bytes: &[u8], out: &mut
 }
 
 pub fn factory_reset(front: &[u8], limit: usize, bytes: &[u8], out: &mut [u8]) -> Written
-    ensures { λ r. ⌜ Writes (badWithin limit FactoryReset (now (bytes .entry))) (now (front .entry) ++ controlImage FactoryReset (now (bytes .entry))) (now (out .entry)) r (now (out .exit)) ⌝ }
+    ensures { λ r. ⌜ WritesBehind (now (front .entry)) limit FactoryReset (now (bytes .entry)) (now (out .entry)) r (now (out .exit)) ⌝ }
 {
     let none = &bytes[0..0];
     let fields = [0xEF, 0xBE, 0xAD, 0xDE];
     packet(front, limit, 1, &fields, none, none, out)
+}
+
+// A state's type, id and mode, and what is reserved behind them.
+fn state_fields(kind: u16, id: u16, mode: u8) -> [u8; 6]
+    ensures { λ r. ⌜ r ≡ le 2 kind ++ (le 2 id ++ (mode ∷ 0 ∷ [])) ⌝ }
+{
+    [
+        (kind % 256) as u8,
+        (kind / 256) as u8,
+        (id % 256) as u8,
+        (id / 256) as u8,
+        mode,
+        0,
+    ]
 }
 
 pub fn get_state(
@@ -90,20 +106,13 @@ pub fn get_state(
     bytes: &[u8],
     out: &mut [u8],
 ) -> Written
-    ensures { λ r. ⌜ Writes (badWithin limit (GetState f) (now (bytes .entry))) (now (front .entry) ++ controlImage (GetState f) (now (bytes .entry))) (now (out .entry)) r (now (out .exit)) ⌝ }
+    ensures { λ r. ⌜ WritesBehind (now (front .entry)) limit (GetState f) (now (bytes .entry)) (now (out .entry)) r (now (out .exit)) ⌝ }
 {
     if 2 < f.mode {
         return Written::Refused(17);
     }
     let none = &bytes[0..0];
-    let fields = [
-        (f.kind % 256) as u8,
-        (f.kind / 256) as u8,
-        (f.id % 256) as u8,
-        (f.id / 256) as u8,
-        f.mode,
-        0,
-    ];
+    let fields = state_fields(f.kind, f.id, f.mode);
     packet(front, limit, 2, &fields, none, none, out)
 }
 
@@ -114,7 +123,7 @@ pub fn set_state(
     bytes: &[u8],
     out: &mut [u8],
 ) -> Written
-    ensures { λ r. ⌜ Writes (badWithin limit (SetState f) (now (bytes .entry))) (now (front .entry) ++ controlImage (SetState f) (now (bytes .entry))) (now (out .entry)) r (now (out .exit)) ⌝ }
+    ensures { λ r. ⌜ WritesBehind (now (front .entry)) limit (SetState f) (now (bytes .entry)) (now (out .entry)) r (now (out .exit)) ⌝ }
 {
     let value = f.value;
     if wire::layouts::runs_past(bytes, value) {
@@ -123,14 +132,7 @@ pub fn set_state(
     if 1 < f.mode {
         return Written::Refused(17);
     }
-    let fields = [
-        (f.kind % 256) as u8,
-        (f.kind / 256) as u8,
-        (f.id % 256) as u8,
-        (f.id / 256) as u8,
-        f.mode,
-        0,
-    ];
+    let fields = state_fields(f.kind, f.id, f.mode);
     packet(
         front,
         limit,
@@ -149,7 +151,7 @@ pub fn ibeacon_config(
     bytes: &[u8],
     out: &mut [u8],
 ) -> Written
-    ensures { λ r. ⌜ Writes (badWithin limit (IbeaconConfig f) (now (bytes .entry))) (now (front .entry) ++ controlImage (IbeaconConfig f) (now (bytes .entry))) (now (out .entry)) r (now (out .exit)) ⌝ }
+    ensures { λ r. ⌜ WritesBehind (now (front .entry)) limit (IbeaconConfig f) (now (bytes .entry)) (now (out .entry)) r (now (out .exit)) ⌝ }
 {
     if 1 < f.id {
         return Written::Refused(17);
@@ -168,7 +170,7 @@ pub fn ibeacon_config(
 }
 
 pub fn switch(front: &[u8], limit: usize, value: u8, bytes: &[u8], out: &mut [u8]) -> Written
-    ensures { λ r. ⌜ Writes (badWithin limit (Switch value) (now (bytes .entry))) (now (front .entry) ++ controlImage (Switch value) (now (bytes .entry))) (now (out .entry)) r (now (out .exit)) ⌝ }
+    ensures { λ r. ⌜ WritesBehind (now (front .entry)) limit (Switch value) (now (bytes .entry)) (now (out .entry)) r (now (out .exit)) ⌝ }
 {
     if 100 < value {
         return Written::Refused(17);
@@ -185,7 +187,7 @@ pub fn multi_switch(
     bytes: &[u8],
     out: &mut [u8],
 ) -> Written
-    ensures { λ r. ⌜ Writes (badWithin limit (MultiSwitch f) (now (bytes .entry))) (now (front .entry) ++ controlImage (MultiSwitch f) (now (bytes .entry))) (now (out .entry)) r (now (out .exit)) ⌝ }
+    ensures { λ r. ⌜ WritesBehind (now (front .entry)) limit (MultiSwitch f) (now (bytes .entry)) (now (out .entry)) r (now (out .exit)) ⌝ }
 {
     let pairs = f.pairs;
     if wire::layouts::runs_past(bytes, pairs) {

@@ -14,7 +14,7 @@ use Rattle.wire.specs.Rules.{_when_, firstBroken}
 use Rattle.wire.proofs.Choice.{or-fails, true-false}
 use Rattle.wire.proofs.Fields.{part-end}
 use Rattle.wire.proofs.Lists.{part-in}
-use Rattle.wire.proofs.Lookup.{lookup-all}
+use Rattle.wire.proofs.Lookup.{lookup-all, _also_}
 use Rattle.wire.proofs.Rules.{first-none}
 use Rattle.access.specs.declared.Mode.{Mode}
 use Rattle.control.specs.Control.{controlRules}
@@ -55,28 +55,15 @@ module _ (d : List ℕ) (f : Form) (mode : Mode) where
 
   type-says : (n : ℕ) → Claim d f mode n (typeOf n)
   type-says n =
-      lookup-all (λ (r : Row). r .number) (λ (r : Row). r) noRow (Claim d f mode n) table n (
-        λ e l b. record { type = sym e; values = refl; bytes = exact 1 _ b },
-        (
-          λ e l b. record { type = sym e; values = refl; bytes = exact 6 _ b },
-          (
-            λ e l b. record { type = sym e; values = refl; bytes = exact 2 _ b },
-            (
-              λ e l b. record { type = sym e; values = refl; bytes = status-bytes (eqb-true (length d) 11 (not-false _ (sized _ _ b))) },
-              (
-                λ e l b. record { type = sym e; values = refl; bytes = exact 0 _ b },
-                (
-                  λ e l b. let s = packet-says b in record { type = sym e; values = s .values; bytes = s .bytes },
-                  (
-                    λ e l b. record { type = sym e; values = refl; bytes = part-end d 2 (ltb-false _ _ (sized _ _ b)) },
-                    λ l b. true-false (sym l),
-                  ),
-                ),
-              ),
-            ),
-          ),
-        ),
-      )
+      lookup-all (λ (r : Row). r .number) (λ (r : Row). r) noRow (Claim d f mode n) table n
+      ((λ e l b. record { type = sym e; values = refl; bytes = exact 1 _ b })
+      also (λ e l b. record { type = sym e; values = refl; bytes = exact 6 _ b })
+      also (λ e l b. record { type = sym e; values = refl; bytes = exact 2 _ b })
+      also (λ e l b. record { type = sym e; values = refl; bytes = status-bytes (eqb-true (length d) 11 (not-false _ (sized _ _ b))) })
+      also (λ e l b. record { type = sym e; values = refl; bytes = exact 0 _ b })
+      also (λ e l b. let s = packet-says b in record { type = sym e; values = s .values; bytes = s .bytes })
+      also (λ e l b. record { type = sym e; values = refl; bytes = part-end d 2 (ltb-false _ _ (sized _ _ b)) })
+      also (λ l b. true-false (sym l)))
 
 pub message-says : (f : Form) (required : Bool) (mode : Mode) (p : List ℕ) → firstBroken (messageRules f required mode p) ≡ 0 → Says p
 message-says f required mode p e =

@@ -6,6 +6,8 @@ use lib.ListN.{length}
 use lib.Dec.{ltb}
 use Rattle.wire.specs.Numbers.{le}
 use Rattle.wire.specs.Fields.{bodyOf, unreadable}
+use Rattle.wire.specs.Writing.{Writes}
+use Rattle.wire.specs.declared.Written.{Written}
 use Rattle.control.specs.declared.Command.{Command}
 use Rattle.control_write.specs.Image.{controlImage, commandBad}
 use Rattle.message.specs.Message.{messageType, messageValues, messageParts}
@@ -45,3 +47,7 @@ messageImage m s = le 2 (messageType m) ++ dataOf (bodyFor m) m s
 -- or a message above 507 bytes
 abbrev pub messageBad : Message → List ℕ → Bool
 messageBad m s = dataBad (bodyFor m) m s || ltb 507 (length (messageImage m s))
+
+-- what the writer answers and leaves
+abbrev pub WritesMessage : Message → List ℕ → List ℕ → Written → List ℕ → Type 0
+WritesMessage m s room answer after = Writes (messageBad m s) (messageImage m s) room answer after

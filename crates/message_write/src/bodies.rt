@@ -11,7 +11,7 @@ ghost use lib.ListN.{length};
 ghost use Rattle.wire.specs.Numbers.{le};
 ghost use Rattle.wire.specs.Writing.{Writes};
 ghost use Rattle.message.specs.declared.Message.the-variants.{Hello, SessionNonce, Heartbeat, Status, GetMac, Control, HubReply};
-ghost use Rattle.message_write.specs.Image.{messageImage, messageBad};
+ghost use Rattle.message_write.specs.Image.{WritesMessage};
 
 // A data type, and data of fields and a slice: at most 507 bytes.
 pub fn typed(number: u16, fields: &[u8], rest: &[u8], out: &mut [u8]) -> Written
@@ -28,7 +28,7 @@ pub fn typed(number: u16, fields: &[u8], rest: &[u8], out: &mut [u8]) -> Written
 }
 
 pub fn hello(flags: u8, bytes: &[u8], out: &mut [u8]) -> Written
-    ensures { λ r. ⌜ Writes (messageBad (Hello flags) (now (bytes .entry))) (messageImage (Hello flags) (now (bytes .entry))) (now (out .entry)) r (now (out .exit)) ⌝ }
+    ensures { λ r. ⌜ WritesMessage (Hello flags) (now (bytes .entry)) (now (out .entry)) r (now (out .exit)) ⌝ }
 {
     if 15 < flags {
         return Written::Refused(17);
@@ -38,7 +38,7 @@ pub fn hello(flags: u8, bytes: &[u8], out: &mut [u8]) -> Written
 }
 
 pub fn session_nonce(f: SessionNonceFields, bytes: &[u8], out: &mut [u8]) -> Written
-    ensures { λ r. ⌜ Writes (messageBad (SessionNonce f) (now (bytes .entry))) (messageImage (SessionNonce f) (now (bytes .entry))) (now (out .entry)) r (now (out .exit)) ⌝ }
+    ensures { λ r. ⌜ WritesMessage (SessionNonce f) (now (bytes .entry)) (now (out .entry)) r (now (out .exit)) ⌝ }
 {
     let timeout = f.timeout;
     let nonce = f.nonce;
@@ -50,7 +50,7 @@ pub fn session_nonce(f: SessionNonceFields, bytes: &[u8], out: &mut [u8]) -> Wri
 }
 
 pub fn heartbeat(timeout: Seconds, bytes: &[u8], out: &mut [u8]) -> Written
-    ensures { λ r. ⌜ Writes (messageBad (Heartbeat timeout) (now (bytes .entry))) (messageImage (Heartbeat timeout) (now (bytes .entry))) (now (out .entry)) r (now (out .exit)) ⌝ }
+    ensures { λ r. ⌜ WritesMessage (Heartbeat timeout) (now (bytes .entry)) (now (out .entry)) r (now (out .exit)) ⌝ }
 {
     if 65535 < timeout.0 {
         return Written::Refused(17);
@@ -60,7 +60,7 @@ pub fn heartbeat(timeout: Seconds, bytes: &[u8], out: &mut [u8]) -> Written
 }
 
 pub fn status(f: StatusFields, bytes: &[u8], out: &mut [u8]) -> Written
-    ensures { λ r. ⌜ Writes (messageBad (Status f) (now (bytes .entry))) (messageImage (Status f) (now (bytes .entry))) (now (out .entry)) r (now (out .exit)) ⌝ }
+    ensures { λ r. ⌜ WritesMessage (Status f) (now (bytes .entry)) (now (out .entry)) r (now (out .exit)) ⌝ }
 {
     let part = f.data;
     if wire::layouts::runs_past(bytes, part) {
@@ -80,7 +80,7 @@ pub fn status(f: StatusFields, bytes: &[u8], out: &mut [u8]) -> Written
 }
 
 pub fn get_mac(bytes: &[u8], out: &mut [u8]) -> Written
-    ensures { λ r. ⌜ Writes (messageBad GetMac (now (bytes .entry))) (messageImage GetMac (now (bytes .entry))) (now (out .entry)) r (now (out .exit)) ⌝ }
+    ensures { λ r. ⌜ WritesMessage GetMac (now (bytes .entry)) (now (out .entry)) r (now (out .exit)) ⌝ }
 {
     let none = &bytes[0..0];
     typed(4, none, none, out)
@@ -88,14 +88,14 @@ pub fn get_mac(bytes: &[u8], out: &mut [u8]) -> Written
 
 // A control packet behind the type's two bytes: 500 bytes of payload make a message of 507.
 pub fn control_packet(c: Command, bytes: &[u8], out: &mut [u8]) -> Written
-    ensures { λ r. ⌜ Writes (messageBad (Control c) (now (bytes .entry))) (messageImage (Control c) (now (bytes .entry))) (now (out .entry)) r (now (out .exit)) ⌝ }
+    ensures { λ r. ⌜ WritesMessage (Control c) (now (bytes .entry)) (now (out .entry)) r (now (out .exit)) ⌝ }
 {
     let head = [10, 0];
     control_write::write_behind(&head, 500, c, bytes, out)
 }
 
 pub fn hub_reply(f: HubReplyFields, bytes: &[u8], out: &mut [u8]) -> Written
-    ensures { λ r. ⌜ Writes (messageBad (HubReply f) (now (bytes .entry))) (messageImage (HubReply f) (now (bytes .entry))) (now (out .entry)) r (now (out .exit)) ⌝ }
+    ensures { λ r. ⌜ WritesMessage (HubReply f) (now (bytes .entry)) (now (out .entry)) r (now (out .exit)) ⌝ }
 {
     let part = f.data;
     if wire::layouts::runs_past(bytes, part) {

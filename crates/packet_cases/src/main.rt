@@ -9,7 +9,9 @@ fn main() {
     let n = io::read_full(0, &mut buffer);
     lines(&buffer[..n]);
     writers::switches();
+    writers::multi_switches();
     writers::states();
+    writers::setups();
     writers::fields();
     writers::parts();
     writers::commands();

@@ -1,5 +1,6 @@
 // Writes what was read.
 use control::Command;
+use control::SetupFields;
 use message::Message;
 use result::ResultPacket;
 use wire::Part;
@@ -52,16 +53,18 @@ pub fn again(w: Written, room: &[u8], bytes: &[u8]) {
     }
 }
 
+fn setup(f: SetupFields) {
+    number(b"setup stone ", f.stone as u64);
+    number(b" sphere ", f.sphere as u64);
+    let keys = f.keys;
+    part(b" keys ", keys);
+    let rest = f.rest;
+    part(b" rest ", rest);
+}
+
 pub fn command(c: Command) {
     match c {
-        Command::Setup(f) => {
-            number(b"setup stone ", f.stone as u64);
-            number(b" sphere ", f.sphere as u64);
-            let keys = f.keys;
-            part(b" keys ", keys);
-            let rest = f.rest;
-            part(b" rest ", rest);
-        }
+        Command::Setup(f) => setup(f),
         Command::FactoryReset => text(b"factory reset"),
         Command::GetState(f) => {
             number(b"get state type ", f.kind as u64);

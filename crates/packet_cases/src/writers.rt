@@ -147,6 +147,9 @@ pub fn switches() {
         65536,
         5,
     );
+}
+
+pub fn multi_switches() {
     packet(
         b"write multi switch, 2 pairs: ",
         multi_switch(2, 4),
@@ -206,6 +209,9 @@ pub fn states() {
         16,
         MOST,
     );
+}
+
+pub fn setups() {
     packet(b"write setup, keys of 96: ", setup(96, 4), 0, 100, MOST);
     packet(b"write setup, keys of 95: ", setup(95, 4), 0, 100, MOST);
     packet(

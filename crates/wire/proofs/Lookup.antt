@@ -24,6 +24,11 @@ split (k ∷ ks) n r = let s = split ks n r in (s .0 .0, (s .0 .1, s .1))
 none-of : (ks : List ℕ) (n : ℕ) → Rest (Unit {0}) ks n → NoneOf ks n
 none-of ks n r = split {X = Unit {0}} ks n r .1
 
+-- one fact behind the other, as `Each` below asks for them
+infixr 15 _also_
+abbrev pub _also_ : {A B : Type 0} → A → B → A × B
+a also b = (a, b)
+
 module _ {A B : Type 0} (key : A → ℕ) (give : A → B) (none : B) where
   past : (rs more : List A) (n : ℕ) → NoneOf (map key rs) n → lookup key give none (rs ++ more) n ≡ lookup key give none more n
   past [] more n h = refl

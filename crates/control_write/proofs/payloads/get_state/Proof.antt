@@ -12,7 +12,10 @@ returns : tie.Need-returns
 returns c = let g = c .before .before .before .before .before .args in writes-bad (bad-fields (g .limit) (GetState (g .f)) (g .bytes .now) (simp (lt-ltb _ _ (c .if1 .taken))))
 
 returns-2 : tie.Need-returns-2
-returns-2 c = let g = c .before .before .before .before .before .before .before .before .before .before .before .before .before .before .before .args in writes-as (long-only (g .limit) (GetState (g .f)) (g .bytes .now) refl (simp (lt-ltb (g .f .kind) 65536 (search needs), lt-ltb (g .f .id) 65536 (search needs), lt-ltb (g .f .mode) 256 (search needs))) refl (simp (le-ltb _ _ (c .before .before .before .before .before .before .before .before .before .before .if1 .left))) refl) (c .before .before .packet .ensures)
+returns-2 c =
+    let g = c .before .before .before .before .before .before .before .before .before .before .before .before .args in
+    writes-as (long-only (g .limit) (GetState (g .f)) (g .bytes .now) refl (simp (lt-ltb (g .f .kind) 65536 (search needs), lt-ltb (g .f .id) 65536 (search needs), lt-ltb (g .f .mode) 256 (search needs))) refl (simp (le-ltb _ _ (c .before .before .before .before .before .before .before .if1 .left))) refl)
+    (rw (c .before .before .before .before .before .state-fields .ensures) at (c .before .before .packet .ensures))
 
 pub get-state-spec : {M : Type 1} → statement M
 get-state-spec =
@@ -22,10 +25,7 @@ get-state-spec =
     (λ c. search needs)
     (λ c. search needs)
     (λ c. search needs)
-    (λ c. search needs)
-    (λ c. search needs)
-    (λ c. search needs)
-    (λ c. search needs)
+    (λ c κs. search needs)
     (λ c. search needs)
     (λ c κs. search needs)
     (λ c. search needs)

@@ -23,18 +23,17 @@ returns-2 c = let g = c .before .before .before .before .before .before .before 
 
 returns-3 : tie.Need-returns-3
 returns-3 c =
-    let g = c .before .before .before .before .before .before .before .before .before .before .before .before .before .before .before .before .before .before .before .args in
+    let g = c .before .before .before .before .before .before .before .before .before .before .before .before .before .before .before .before .args in
     let s = g .bytes .now in
     let q = payloadOf (SetState (g .f)) s in
-    let e : past s (g .f .value) ≡ false = sym (c .before .before .before .before .before .before .before .before .before .before .before .before .before .before .runs-past .ensures) ∙ c .before .before .before .before .before .before .before .before .before .before .before .before .before .if1 .left in
+    let e : past s (g .f .value) ≡ false = sym (c .before .before .before .before .before .before .before .before .before .before .before .runs-past .ensures) ∙ c .before .before .before .before .before .before .before .before .before .before .if1 .left in
     let l = part-length s (g .f .value) e in
     writes-as
-    (long-only (g .limit) (SetState (g .f)) (g .bytes .now) (simp e)
-    (simp (lt-ltb (g .f .kind) 65536 (search needs), lt-ltb (g .f .id) 65536 (search needs), lt-ltb (g .f .mode) 256 (search needs)))
+    (long-only (g .limit) (SetState (g .f)) (g .bytes .now) (simp e) (simp (lt-ltb (g .f .kind) 65536 (search needs), lt-ltb (g .f .id) 65536 (search needs), lt-ltb (g .f .mode) 256 (search needs)))
     (simp (le-ltb (length q) 6 (omega arith)))
-    (simp (le-ltb _ _ (c .before .before .before .before .before .before .before .before .before .before .before .if2 .left)))
+    (simp (le-ltb _ _ (c .before .before .before .before .before .before .before .before .if2 .left)))
     (simp (eq-eqb (g .f .value .len) (length q - 6) (omega arith))))
-    (rw (c .before .before .before .before .part-of .ensures) at (c .before .before .packet .ensures))
+    (rw (c .before .before .before .before .before .before .before .state-fields .ensures, c .before .before .before .before .part-of .ensures) at (c .before .before .packet .ensures))
 
 pub set-state-spec : {M : Type 1} → statement M
 set-state-spec =
@@ -43,10 +42,7 @@ set-state-spec =
     (λ c κs. search needs)
     returns
     returns-2
-    (λ c. search needs)
-    (λ c. search needs)
-    (λ c. search needs)
-    (λ c. search needs)
+    (λ c κs. search needs)
     (λ c. search needs)
     (λ c. search needs)
     (λ c. search needs)
