@@ -1,7 +1,7 @@
--- Two plain messages and a sealed one, noise, and a receiver caught inside a frame: by the claim; and the plain ones by computing alone. Assumes nothing.
-use mathlib.Core.Path.{_≡_, refl}
+-- Two plain messages and a sealed one, noise, and a receiver caught inside a frame: by the claim, and by computing. Assumes nothing.
+use mathlib.Core.Path.{_≡_, refl, ap, ap₂}
 use mathlib.Core.Bool.{true, false}
-use mathlib.Core.List.{List, [], _∷_, _++_}
+use mathlib.Core.List.{List, [], _∷_, _++_, zipWith}
 use Prim.Native.Nat.{ℕ, _+_, _*_, _≤_}
 use native.Mathlib.Omega.{arith}
 use lib.ListN.{replicate}
@@ -15,13 +15,18 @@ use Rattle.line.specs.declared.Receiver.{Receiver}
 use Rattle.access.specs.declared.Mode.the-variants.{Normal}
 use Rattle.session.specs.Session.{validAt}
 use Rattle.session.specs.Keys.{noKey}
-use Rattle.envelope.specs.Blocks.{blocksIn}
+use Rattle.aes.specs.Field.{_•_, times, xtime}
+use Rattle.aes.specs.Box.{subByte, affine, turned, inverse, powers}
+use Rattle.aes.specs.Cipher.{mixed, rcon, nextKey, roundKey, from, keyExpansion, round, rounds, cipherUnder, cipher}
+use Rattle.aes.specs.Ctr.{counterBlock, keystream, ctrOf}
+use Rattle.envelope.specs.Blocks.{blocksIn, enveloped}
+use Rattle.envelope.specs.Sealed.{sealedImage, plainText}
 use Rattle.envelope.proofs.Unsealed.{sealed-blocks}
 use Rattle.bridge.specs.Opener.{plainRules, openRules, answerOf, opened, workAfter}
 use Rattle.bridge.specs.Place.{payloadOf}
 use Rattle.bridge.specs.declared.Setting.{Setting}
-use Rattle.whole_line.specs.Told.{Told, says}
-use Rattle.whole_line.specs.Listed.{plain, sealed, Sent, items, Made, wrapped, lineOf, Occasion, Ready, Opening, openings}
+use Rattle.whole_line.specs.Told.{Told, toldOf, says}
+use Rattle.whole_line.specs.Listed.{Item, plain, sealed, messageOf, Sent, items, Made, wrapped, lineOf, Occasion, Ready, Opening, openings, AllGive}
 use Rattle.whole_line.specs.Claim.{Read}
 use Rattle.whole_line.proofs.OneWay.{no-line-two-ways}
 
@@ -98,33 +103,71 @@ ready : Ready g at 0 (items (first ∷ second ∷ third ∷ []))
 unfolding validAt
 ready = (tt, (tt, ((refl, room), tt)))
 
+abbrev toldIn : List Item → List Told
+toldIn [] = []
+toldIn (i ∷ is) = toldOf (messageOf i) ∷ toldIn is
+
 -- what the claim says of it
 pub reads : Read g (first ∷ second ∷ third ∷ []) (after before caught) at
 reads = no-line-two-ways g .read first (second ∷ third ∷ []) made before caught refl at ready
 
--- ---- and by computing alone, the two plain ones
-abbrev list : List Sent
-list = first ∷ second ∷ []
+-- ---- and by computing alone
+-- the sealed one: packet nonce, key ID, one block (worked out with OpenSSL)
+abbrev pub payload : List ℕ
+payload = 0x7E ∷ 0x08 ∷ 0x09 ∷ 0x00 ∷ 0x0D ∷ 0x5E ∷ 0xF5 ∷ 0x8E ∷ 0x50 ∷ 0x02 ∷ 0x67 ∷ 0xBB ∷ 0x5F ∷ 0x3C ∷ 0x61 ∷ 0x17 ∷ 0xA0 ∷ 0x38 ∷ 0x63 ∷ 0xCA ∷ []
+
+pub sealed-is : wrapped g (third .item) ≡ payload
+unfolding sealedImage plainText enveloped ctrOf keystream counterBlock cipher cipherUnder rounds round keyExpansion from roundKey nextKey rcon mixed subByte affine turned inverse powers _•_ times xtime zipWith
+sealed-is = refl
+
+-- with another payload in its stead
+abbrev lineWith : List ℕ → List ℕ
+lineWith p =
+    line.lineOf
+    (record { wrapper = 0; payload = hello; noise = first .strewn }
+    ∷ record { wrapper = 0; payload = reply; noise = [] }
+    ∷ record { wrapper = 128; payload = p; noise = 0 ∷ [] }
+    ∷ [])
 
 -- the whole line
-pub on-line : lineOf g list
+pub on-line : lineOf g (first ∷ second ∷ third ∷ [])
     ≡ 0x7E ∷ 0x08 ∷ 0x00 ∷ 0x01 ∷ 0x00 ∷ 0x00 ∷ 0x00 ∷ 0x00 ∷ 0x03 ∷ 0xD3 ∷ 0x7B
     ∷ 0x5C ∷ 0x5C ∷ 0x41
-    ∷ 0x7E ∷ 0x0B ∷ 0x00 ∷ 0x01 ∷ 0x00 ∷ 0x00 ∷ 0x0B ∷ 0x00 ∷ 0x01 ∷ 0x00 ∷ 0x5C ∷ 0x3E ∷ 0x5C ∷ 0x1C ∷ 0x68 ∷ 0xF6 ∷ []
+    ∷ 0x7E ∷ 0x0B ∷ 0x00 ∷ 0x01 ∷ 0x00 ∷ 0x00 ∷ 0x0B ∷ 0x00 ∷ 0x01 ∷ 0x00 ∷ 0x5C ∷ 0x3E ∷ 0x5C ∷ 0x1C ∷ 0x68 ∷ 0xF6
+    ∷ 0x7E ∷ 0x19 ∷ 0x00 ∷ 0x01 ∷ 0x00 ∷ 0x80 ∷ 0x5C ∷ 0x3E ∷ 0x08 ∷ 0x09 ∷ 0x00 ∷ 0x0D ∷ 0x5E ∷ 0xF5 ∷ 0x8E ∷ 0x50 ∷ 0x02 ∷ 0x67 ∷ 0xBB ∷ 0x5F ∷ 0x3C ∷ 0x61 ∷ 0x17 ∷ 0xA0 ∷ 0x38 ∷ 0x63 ∷ 0xCA ∷ 0x16 ∷ 0xAA ∷ 0x00 ∷ []
 unfolding line.lineOf escape escapeByte isMark crcFrom crcByte crcBit
-on-line = refl
+on-line = ap lineWith sealed-is
 
--- 1 comes first, at the start byte; then both frames
-pub heard : run (before ++ lineOf g list) caught ≡ refusal 1 ∷ frame 1 0 0 3 hello ∷ frame 1 0 0 6 reply ∷ []
+-- 1 comes first, at the start byte; then the three frames
+pub heard : run (before ++ lineOf g (first ∷ second ∷ third ∷ [])) caught
+    ≡ refusal 1 ∷ frame 1 0 0 3 hello ∷ frame 1 0 0 6 reply ∷ frame 1 0 128 20 payload ∷ []
 unfolding run stepOf busy inFrame unescaped taken stored sized finished partOf line.lineOf escape escapeByte isMark crcFrom crcByte crcBit
-heard = refl
+heard = ap (λ (p : List ℕ). run (before ++ lineWith p) caught) sealed-is
 
--- what they say, each its own
+-- what openings say, one behind the other
 abbrev pub spoken : List Opening → List Told
 spoken [] = []
 spoken (o ∷ os) = says (o .answer) (o .frame) (o .work) ++ spoken os
 
-pub speaks : spoken (openings g at 0 (g .session) (run (lineOf g list) (after before caught)))
+-- of the two plain ones, by computing
+pub speaks : spoken (openings g at 0 (g .session) (run (lineOf g (first ∷ second ∷ [])) (after before caught)))
     ≡ record { type = 0; values = 3 ∷ []; bytes = [] } ∷ record { type = 11; values = 1 ∷ []; bytes = 0x7E ∷ 0x5C ∷ [] } ∷ []
 unfolding openings opened answerOf openRules plainRules workAfter payloadOf run after stepOf busy inFrame unescaped taken stored sized finished partOf line.lineOf escape escapeByte isMark crcFrom crcByte crcBit
 speaks = refl
+
+-- of all three, by the claim
+given : (is : List Item) (os : List Opening) → AllGive is os → spoken os ≡ toldIn is
+given [] [] ok = refl
+given [] (o ∷ os) ok = absurd ok
+given (i ∷ is) [] ok = absurd ok
+given (i ∷ is) (o ∷ os) ok = ap₂ (λ (x y : List Told). x ++ y) (ok .0 .tells) (given is os (ok .1))
+
+abbrev opens : List Opening
+opens = openings g at 0 (g .session) (run (lineOf g (first ∷ second ∷ third ∷ [])) (after before caught))
+
+pub all-speak : spoken opens
+    ≡ record { type = 0; values = 3 ∷ []; bytes = [] }
+    ∷ record { type = 11; values = 1 ∷ []; bytes = 0x7E ∷ 0x5C ∷ [] }
+    ∷ record { type = 10; values = 20 ∷ 100 ∷ []; bytes = [] }
+    ∷ []
+all-speak = given (items (first ∷ second ∷ third ∷ [])) opens (reads .gives)

@@ -133,6 +133,11 @@ too-long-sealed m image room after answer e w = w .answers ∙ rw e refl
 pub too-short-sealed : (m image room after : List ℕ) (answer : Written) → length m ≡ 1 → Seals (adminKey g) (outside 2 490 (length m)) image room answer after → answer ≡ Refused 17
 too-short-sealed m image room after answer e w = w .answers ∙ rw e refl
 
+-- room one byte short: 25
+pub short-frame-room : (room after : List ℕ) (answer : Written) → length room ≡ 10 → Writes (badFrame 0 3) (image 0 hello) room answer after → answer ≡ Refused 25
+unfolding badFrame escape escapeByte isMark crcFrom crcByte crcBit
+short-frame-room room after answer e w = w .answers ∙ rw e refl
+
 -- a plain one below 2: 7 from the opener
 pub too-short : got g 159 0 (plain (4 ∷ [])) ≡ refused 7
 unfolding answerOf openRules plainRules
