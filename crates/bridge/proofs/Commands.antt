@@ -1,12 +1,11 @@
 -- The parts of the characteristic's opener put together. Assumes nothing.
-use mathlib.Core.Path.{_≡_, refl, sym, ap, _∙_}
-use mathlib.Core.Bool.{Bool, true, false, not}
+use mathlib.Core.Path.{_≡_, refl, sym, _∙_}
+use mathlib.Core.Bool.{not}
 use mathlib.Core.List.{List, [], _∷_, _++_}
 use Prim.Native.Nat.{ℕ, zero, suc, _+_, _-_, _*_, _≤_}
 use native.Mathlib.Omega.{arith}
 use lib.ListN.{length, getD, take, drop}
 use Rattle.wire.specs.Rules.{_when_, firstBroken, verdict, judge}
-use Rattle.wire.specs.Numbers.{num}
 use Rattle.wire.proofs.Rules.{verdict-map, judge-append, first-none}
 use Rattle.access.specs.declared.Mode.{Mode}
 use Rattle.access.specs.declared.Access.{Access}
@@ -18,7 +17,7 @@ use Rattle.envelope.specs.Characteristic.{sameBytes, characteristicRules, packe
 use Rattle.envelope.proofs.Envelopes.{length-deciphered}
 use Rattle.envelope.proofs.Unsealed.{packet-sized}
 use Rattle.bridge.specs.Characteristic.{levelKey, connectionRules, entryRules, textOf, textRules, openRules, commandTold, characteristicAnswerOf, characteristicWorkAfter}
-use Rattle.bridge.specs.Opening.{commandRefused, commandAnswerBy, commandTextAnswer, blocksAfter}
+use Rattle.bridge.specs.Opening.{commandRefused, commandAnswerBy, commandTextAnswer}
 use Rattle.bridge.proofs.Judging.{blocks-whole, stopped-before, accepted-behind, refused-behind}
 use Rattle.bridge.specs.declared.Link.{Link}
 use Rattle.bridge.specs.declared.CommandAnswer.the-variants.{Accepted, Refused}

@@ -1,13 +1,13 @@
 -- The opener's parts put together. Assumes nothing.
 use mathlib.Core.Path.{_≡_, refl, sym, ap, _∙_}
-use mathlib.Core.Bool.{Bool, true, false, not, _||_}
-use mathlib.Core.List.{List, [], _∷_, _++_}
+use mathlib.Core.Bool.{Bool, true, false, _||_}
+use mathlib.Core.List.{List, _∷_, _++_}
 use Prim.Native.Nat.{ℕ, zero, suc, _+_, _-_, _*_, _≤_}
 use native.Mathlib.Omega.{arith}
-use lib.ListN.{length, getD, drop, replicate}
+use lib.ListN.{length, getD, drop}
 use lib.Dec.{eqb, ltb}
-use borrow.Author.Tests.{le-ltb, eq-eqb, ne-eqb}
-use Rattle.wire.specs.Rules.{Rule, _when_, firstBroken, verdict, judge}
+use borrow.Author.Tests.{le-ltb, ne-eqb}
+use Rattle.wire.specs.Rules.{_when_, firstBroken, verdict, judge}
 use Rattle.wire.proofs.Rules.{verdict-map, judge-append}
 use Rattle.wire.specs.Choice.{pick}
 use Rattle.message.specs.Message.{partsAt}
@@ -16,16 +16,14 @@ use Rattle.message.specs.declared.Form.{Form}
 use Rattle.message.specs.declared.Form.the-variants.{Plain}
 use Rattle.message.specs.declared.Message.{Message}
 use Rattle.message.specs.declared.Message.the-variants.{Hello, SessionNonce, Heartbeat, Status, GetMac, Control, HubReply}
-use Rattle.message.specs.declared.MessageRead.{MessageRead}
 use Rattle.message.specs.declared.MessageRead.the-variants.{Accepted as ReadAccepted, Refused as ReadRefused}
 use Rattle.envelope.specs.Blocks.{blocksIn, cleared}
-use Rattle.envelope.specs.Sealed.{lateRules, messageIn}
+use Rattle.envelope.specs.Sealed.{messageIn}
 use Rattle.envelope.proofs.Envelopes.{length-deciphered}
-use Rattle.bridge.specs.Opener.{plainRules, told, blockRules, sessionRules, entryRules, textOf, textRules, headRules, openRules, answerOf, workAfter, adminKey}
+use Rattle.bridge.specs.Opener.{plainRules, told, sessionRules, entryRules, textOf, textRules, headRules, openRules, answerOf, workAfter, adminKey}
 use Rattle.bridge.specs.Opening.{refused, answerBy, plainAnswer, textAnswer, sealedAnswer, sealedWork, blocksAfter}
 use Rattle.bridge.proofs.Judging.{blocks-whole, stopped-before, accepted-behind, refused-behind}
 use Rattle.bridge.specs.declared.Setting.{Setting}
-use Rattle.bridge.specs.declared.Answer.{Answer}
 use Rattle.bridge.specs.declared.Answer.the-variants.{Accepted, Refused}
 use Rattle.bridge.specs.declared.Place.{Place}
 use Rattle.bridge.specs.declared.Refusal.{Refusal}

@@ -1,5 +1,5 @@
 -- The opener of a frame: document 01, 'Numbers given when something is refused' and the two paragraphs behind the table.
-use Prim.Native.Nat.{ℕ, _+_, _-_, _*_}
+use Prim.Native.Nat.{ℕ, _+_, _*_}
 use mathlib.Core.Bool.{Bool, true, false, not, _||_}
 use mathlib.Core.List.{List, [], _∷_, _++_}
 use lib.ListN.{length, getD, drop, replicate}
@@ -9,7 +9,6 @@ use Rattle.wire.specs.Rules.{Rule, _when_, judge}
 use Rattle.access.specs.declared.Level.the-variants.{Admin}
 use Rattle.message.specs.Message.{partsAt}
 use Rattle.message.specs.Reading.{messageRules, messageAt}
-use Rattle.message.specs.declared.Form.{Form}
 use Rattle.message.specs.declared.Form.the-variants.{Plain, Encrypted}
 use Rattle.message.specs.declared.Message.{Message}
 use Rattle.message.specs.declared.Message.the-variants.{Hello, SessionNonce, Heartbeat, Status, GetMac, Control, HubReply}

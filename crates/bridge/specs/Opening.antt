@@ -1,20 +1,19 @@
 -- How the code splits an opening: what its own functions say. The laws in proofs/Opening.antt put them together.
 use Prim.Native.Nat.{ℕ, _+_, _*_}
-use mathlib.Core.Bool.{Bool, true, false, not}
-use mathlib.Core.List.{List, [], _∷_, _++_}
+use mathlib.Core.Bool.{Bool, true, false}
+use mathlib.Core.List.{List, _++_}
 use lib.ListN.{length, drop, replicate}
-use Rattle.wire.specs.Rules.{Rule, _when_, judge}
+use Rattle.wire.specs.Rules.{Rule, judge}
 use Rattle.message.specs.Message.{partsAt}
 use Rattle.message.specs.declared.MessageRead.{MessageRead}
 use Rattle.message.specs.declared.MessageRead.the-variants.{Accepted as ReadAccepted, Refused as ReadRefused}
 use Rattle.control.specs.declared.ControlRead.{ControlRead}
 use Rattle.control.specs.declared.ControlRead.the-variants.{Accepted as ControlAccepted, Refused as ControlRefused}
-use Rattle.session.specs.Session.{validAt}
 use Rattle.envelope.specs.Blocks.{blocksIn}
 use Rattle.envelope.specs.Sealed.{messageIn}
 use Rattle.bridge.specs.Reply.{refusal, characteristicRefusal}
 use Rattle.bridge.specs.Place.{placed}
-use Rattle.bridge.specs.Opener.{plainRules, adminKey, entryRules, textRules, textOf, told}
+use Rattle.bridge.specs.Opener.{plainRules, entryRules, textRules, textOf, told}
 use Rattle.bridge.specs.Characteristic.{commandTold, textRules as characteristicTextRules}
 use Rattle.bridge.specs.declared.Setting.{Setting}
 use Rattle.bridge.specs.declared.Link.{Link}

@@ -1,5 +1,5 @@
 -- Where the payload of an accepted message or command lies: "a part of the frame's bytes or of the work buffer, whichever it came from".
-use Prim.Native.Nat.{ℕ, _+_, _-_}
+use Prim.Native.Nat.{ℕ, _-_}
 use mathlib.Core.Bool.{Bool}
 use mathlib.Core.List.{List}
 use Rattle.wire.specs.Choice.{pick}

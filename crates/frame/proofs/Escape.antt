@@ -1,7 +1,7 @@
 -- Laws of escaping, and of a run of stores that escapes as it goes. Assumes nothing.
 use mathlib.Core.Path.{_≡_, refl, sym, ap, _∙_}
 use mathlib.Core.List.{List, [], _∷_, _++_, append-assoc}
-use mathlib.Core.Bool.{Bool, true, false, not, _||_}
+use mathlib.Core.Bool.{true, false, not, _||_}
 use Prim.Native.Nat.{ℕ, _+_, _≤_, _<_}
 use native.Mathlib.Numerals.{add-one}
 use native.Mathlib.Omega.{arith}
@@ -10,7 +10,6 @@ use lib.Bits.{bitXor}
 use lib.Dec.{eqb, ltb}
 use lib.ListN.{length, drop, getD, set, length-append, drop-of-length-le}
 use lib.Seq.{drop-cons, sets}
-use Rattle.wire.specs.Choice.{pick}
 use Rattle.wire.specs.Numbers.{le}
 use Rattle.wire.proofs.Choice.{or-fails}
 use Rattle.wire.proofs.Lists.{sets-then}

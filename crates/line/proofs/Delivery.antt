@@ -8,15 +8,15 @@ use native.Mathlib.Omega.{arith}
 use lib.ListN.{length, take, drop, getD, set, length-append, length-drop, length-set, replicate, length-replicate}
 use lib.Seq.{sets, sets-eq, take-at, getD-at}
 use lib.Bits.{bitXor}
-use lib.Dec.{leb, ltb, eqb}
-use borrow.Author.Tests.{eq-eqb, ne-eqb, eqb-true, eqb-false, le-leb, lt-ltb}
+use lib.Dec.{eqb}
+use borrow.Author.Tests.{eq-eqb, ne-eqb, eqb-true, eqb-false, le-leb}
 use Rattle.wire.specs.Choice.{pick}
 use Rattle.wire.specs.Numbers.{le, num}
 use Rattle.wire.proofs.Lists.{part-in}
 use Rattle.crc.specs.Crc.{crcOf}
 use Rattle.frame.specs.Image.{image, body, covered, escape, escapeByte, isMark}
 use Rattle.line.specs.Receive.{stepOf, busy, finished, reading, resting, holding, idle, goes, framePayload, freshReceiver}
-use Rattle.line.specs.Moves.{moveOf, inFrameMove, unescapedMove, takenMove, storedMove, sizedMove, keep, acted, storeAfter}
+use Rattle.line.specs.Moves.{moveOf, takenMove, storedMove, sizedMove, keep, acted, storeAfter}
 use Rattle.line.specs.Line.{Seen, refusal, frame, seen, hear, run, after, Sent, lineOf, framesOf, NoStart, Sendable}
 use Rattle.line.proofs.Moves.{step-moves, move-plain, move-mark, move-3E, move-1C}
 use Rattle.line.specs.declared.Progress.{Progress}

@@ -1,6 +1,5 @@
 -- Document 01's examples of bytes that a fresh receiver gets, computed.
 use mathlib.Core.Path.{_≡_, refl}
-use mathlib.Core.Bool.{true, false}
 use mathlib.Core.List.{[], _∷_}
 use Rattle.wire.specs.Parts.{partOf}
 use Rattle.crc.specs.Crc.{crcFrom, crcByte, crcBit}

@@ -2,7 +2,7 @@
 -- both together are the step.
 use Prim.Native.Nat.{ℕ, _+_, _-_, _*_, _≤_, _<_}
 use mathlib.Core.List.{List}
-use mathlib.Core.Bool.{Bool, true, false}
+use mathlib.Core.Bool.{true, false}
 use lib.ListN.{set}
 use lib.Dec.{eqb}
 use Rattle.wire.specs.Choice.{pick}

@@ -1,55 +1,51 @@
 -- One message of the list: it is written, handed out and opened as demand 3 says. Assumes nothing.
-use mathlib.Core.Path.{_≡_, refl, sym, ap, ap₂, _∙_, subst}
-use mathlib.Core.Bool.{Bool, true, false, not, _||_}
+use mathlib.Core.Path.{_≡_, refl, sym, ap, ap₂, _∙_}
+use mathlib.Core.Bool.{Bool, true, false}
 use mathlib.Core.List.{List, [], _∷_, _++_}
 use Prim.Native.Nat.{ℕ, zero, suc, _+_, _-_, _*_, _≤_, _<_}
 use native.Mathlib.Omega.{arith}
-use lib.ListN.{length, getD, take, drop, replicate, length-take, length-drop, drop-of-length-le}
+use lib.ListN.{length, take, drop, replicate, length-take, length-drop, drop-of-length-le}
 use lib.Seq.{take-at, take-length, take-nil, drop-drop}
-use lib.Dec.{eqb, ltb, leb}
+use lib.Dec.{leb}
 use borrow.Author.Tests.{le-ltb, leb-true, leb-false}
 use Rattle.wire.specs.Choice.{pick}
-use Rattle.wire.specs.Rules.{Rule, _when_, firstBroken, judge}
+use Rattle.wire.specs.Rules.{Rule, firstBroken}
 use Rattle.wire.specs.Parts.{part, partOf}
-use Rattle.wire.specs.Writing.{Stores, Writes, writerRules}
+use Rattle.wire.specs.Writing.{Stores, writerRules}
 use Rattle.wire.specs.declared.Written.{Written}
 use Rattle.wire.specs.declared.Written.the-variants.{Wrote, Refused}
 use Rattle.wire.proofs.Lists.{part-in}
 use Rattle.wire.proofs.Lookup.{lookup-all}
-use Rattle.wire.proofs.Rules.{first-right, judge-append}
+use Rattle.wire.proofs.Rules.{first-right}
 use Rattle.frame.specs.Image.{image}
 use Rattle.frame.specs.Writer.{badFrame}
 use Rattle.access.specs.declared.Mode.{Mode}
 use Rattle.access.specs.declared.Mode.the-variants.{Normal}
 use Rattle.access.specs.declared.Level.the-variants.{Admin}
-use Rattle.message.specs.Message.{messageType, messageValues, messageBytes, partsAt}
-use Rattle.message.specs.Table.{Row, table, noRow, typeOf}
-use Rattle.message.specs.Reading.{messageRules, messageAt, messageOf, tableValues, tableBytes}
+use Rattle.message.specs.Message.{messageBytes, partsAt}
+use Rattle.message.specs.Table.{Row, table, noRow}
+use Rattle.message.specs.Reading.{messageRules, messageAt, messageOf}
 use Rattle.message.specs.Says.{Says}
 use Rattle.message.proofs.Meaning.{message-says}
 use Rattle.message.specs.declared.Form.{Form}
 use Rattle.message.specs.declared.Form.the-variants.{Plain, Encrypted}
-use Rattle.message.specs.declared.Message.{Message}
 use Rattle.units.specs.declared.Seconds.{Seconds}
 use Rattle.session.specs.Session.{validAt}
 use Rattle.session.specs.Keys.{keyFor}
-use Rattle.session.specs.declared.Session.{Session}
-use Rattle.session.specs.declared.Key.{Key}
 use Rattle.session.specs.declared.Keys.{Keys}
 use Rattle.aes.specs.Ctr.{blocksFor}
-use Rattle.envelope.specs.Blocks.{outside, Seals, sealerRules, blocksIn, wrongLength, lengthRule, roomRule}
-use Rattle.envelope.specs.Sealed.{sealedImage, plainText, lateRules, messageIn}
-use Rattle.envelope.proofs.Unsealed.{sealed-id, sealed-length, sealed-blocks, sealed-whole, unsealed, late-plain, length-plain, message-plain, message-behind, same-sealed}
-use Rattle.bridge.specs.Reply.{refusal}
-use Rattle.bridge.specs.Place.{placed, payloadOf}
-use Rattle.bridge.specs.Opener.{adminKey, blockRules, sessionRules, entryRules, textOf, textRules, openRules, told, answerOf, sessionBy, sessionAfter, opened, workAfter}
-use Rattle.bridge.specs.Opening.{refused, plainAnswer, sealedAnswer, textAnswer, sealedWork, blocksAfter}
-use Rattle.bridge.proofs.Opening.{plain-passes, plain-frame, sealed-frame, sealed-left, parts-at-most}
+use Rattle.envelope.specs.Blocks.{outside, sealerRules, blocksIn}
+use Rattle.envelope.specs.Sealed.{plainText, lateRules, messageIn}
+use Rattle.envelope.proofs.Unsealed.{sealed-id, sealed-length, sealed-whole, unsealed, late-plain, message-plain, message-behind, same-sealed}
+use Rattle.bridge.specs.Place.{payloadOf}
+use Rattle.bridge.specs.Opener.{adminKey, sessionRules, entryRules, textOf, textRules, told, answerOf, sessionBy, sessionAfter, opened, workAfter}
+use Rattle.bridge.specs.Opening.{refused, sealedAnswer, textAnswer, sealedWork, blocksAfter}
+use Rattle.bridge.proofs.Opening.{plain-passes, plain-frame, sealed-frame, sealed-left}
 use Rattle.bridge.proofs.Judging.{judge-pass}
 use Rattle.bridge.specs.declared.Setting.{Setting}
 use Rattle.bridge.specs.declared.Answer.{Answer}
-use Rattle.whole_line.specs.Told.{Told, dataType, toldOf, said, says}
-use Rattle.whole_line.specs.Listed.{Item, plain, sealed, messageOf as itemMessage, Permitted, Sealable, Allowed, wrapperOf, wrapped, Sealed, Framed, Occasion, Fit, during, Opening, Gives}
+use Rattle.whole_line.specs.Told.{dataType, toldOf, says}
+use Rattle.whole_line.specs.Listed.{Item, plain, sealed, Permitted, Sealable, Allowed, wrapperOf, wrapped, Sealed, Framed, Occasion, Fit, during, Opening, Gives}
 
 -- ---- the writers
 -- a writer whose rules all hold has written, at the front

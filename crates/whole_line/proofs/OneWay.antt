@@ -2,9 +2,9 @@
 use mathlib.Core.Path.{_≡_, refl, sym, ap, _∙_, subst}
 use mathlib.Core.Bool.{Bool, true, false}
 use mathlib.Core.List.{List, [], _∷_, _++_}
-use Prim.Native.Nat.{ℕ, suc, _≤_}
+use Prim.Native.Nat.{ℕ, suc}
 use native.Mathlib.Omega.{arith}
-use lib.ListN.{length, drop}
+use lib.ListN.{length}
 use Rattle.wire.specs.Choice.{pick}
 use Rattle.line.specs.Receive.{stepOf, busy}
 use Rattle.line.specs.Line as line
@@ -14,7 +14,7 @@ use Rattle.line.specs.declared.Receiver.{Receiver}
 use Rattle.line.specs.declared.Event.the-variants.{Nothing, Refused}
 use Rattle.session.specs.declared.Session.{Session}
 use Rattle.bridge.specs.declared.Setting.{Setting}
-use Rattle.whole_line.specs.Listed.{Item, Sent, items, Made, onLine, lineOf, wrapperOf, wrapped, AllWritten, Occasion, Ready, Opening, openings, AllGive}
+use Rattle.whole_line.specs.Listed.{Sent, items, Made, onLine, lineOf, wrapperOf, wrapped, AllWritten, Occasion, Ready, Opening, openings, AllGive}
 use Rattle.whole_line.specs.Claim.{Read, OneWay}
 use Rattle.whole_line.proofs.Items.{one-short, one-seals, one-frames, one-gives, one-keeps, one-same}
 

@@ -1,8 +1,8 @@
 -- The list of demand 3: messages in their forms, which of them are permitted, the line that they make, and the openings.
 use Prim.Native.Nat.{ℕ, suc, _*_, _≤_}
 use mathlib.Core.Path.{_≡_}
-use mathlib.Core.Bool.{Bool, true, false}
-use mathlib.Core.List.{List, [], _∷_, _++_}
+use mathlib.Core.Bool.{true}
+use mathlib.Core.List.{List, [], _∷_}
 use lib.ListN.{length, take}
 use Rattle.wire.specs.Rules.{firstBroken}
 use Rattle.wire.specs.Writing.{Writes}
@@ -20,7 +20,7 @@ use Rattle.session.specs.declared.Session.{Session}
 use Rattle.units.specs.declared.Seconds.{Seconds}
 use Rattle.envelope.specs.Blocks.{outside, Seals, blocksIn}
 use Rattle.envelope.specs.Sealed.{sealedImage}
-use Rattle.bridge.specs.Opener.{adminKey, opened, workAfter, told}
+use Rattle.bridge.specs.Opener.{adminKey, opened, workAfter}
 use Rattle.bridge.specs.declared.Setting.{Setting}
 use Rattle.bridge.specs.declared.Answer.{Answer}
 use Rattle.whole_line.specs.Told.{dataType, toldOf, says}

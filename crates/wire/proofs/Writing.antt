@@ -1,13 +1,13 @@
 -- How a writer ends: a law for each way. Assumes nothing.
-use mathlib.Core.Path.{_≡_, refl, sym, ap, _∙_, subst}
-use mathlib.Core.Bool.{Bool, true, false}
+use mathlib.Core.Path.{_≡_, _∙_, subst}
+use mathlib.Core.Bool.{Bool, false}
 use mathlib.Core.List.{List, [], _∷_, _++_, append-assoc}
-use Prim.Native.Nat.{ℕ, zero, suc, _+_, _≤_, _<_}
+use Prim.Native.Nat.{ℕ, suc, _+_, _≤_, _<_}
 use native.Mathlib.Omega.{arith}
 use lib.ListN.{length, take, drop, length-append}
-use lib.Seq.{sets, sets-eq, take-at}
+use lib.Seq.{sets, sets-eq}
 use borrow.Author.Tests.{lt-ltb, le-ltb}
-use Rattle.wire.specs.Rules.{Rule, _when_, firstBroken, judge, verdict}
+use Rattle.wire.specs.Rules.{Rule, _when_, firstBroken}
 use Rattle.wire.specs.Writing.{Stores, noRoom, placed}
 use Rattle.wire.proofs.Lists.{sets-three}
 use Rattle.wire.specs.declared.Written.{Written}
