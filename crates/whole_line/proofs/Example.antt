@@ -2,7 +2,7 @@
 use mathlib.Core.Path.{_≡_, refl, ap, ap₂}
 use mathlib.Core.Bool.{true, false}
 use mathlib.Core.List.{List, [], _∷_, _++_, zipWith}
-use Prim.Native.Nat.{ℕ, _*_, _≤_}
+use Prim.Native.Nat.{ℕ, _+_, _*_, _≤_}
 use native.Mathlib.Omega.{arith}
 use lib.ListN.{replicate}
 use Rattle.wire.specs.Parts.{partOf}
@@ -15,7 +15,7 @@ use Rattle.line.specs.declared.Receiver.{Receiver}
 use Rattle.access.specs.declared.Mode.the-variants.{Normal}
 use Rattle.session.specs.Session.{validAt}
 use Rattle.session.specs.Keys.{noKey}
-use Rattle.aes.specs.Field.{times, xtime}
+use Rattle.aes.specs.Field.{_•_, times, xtime}
 use Rattle.aes.specs.Box.{subByte, affine, turned, inverse, powers}
 use Rattle.aes.specs.Cipher.{mixed, rcon, nextKey, roundKey, from, keyExpansion, round, rounds, cipherUnder, cipher}
 use Rattle.aes.specs.Ctr.{counterBlock, keystream, ctrOf}
