@@ -1,6 +1,8 @@
 // Modes, user levels, and how a packet came.
 ghost use mathlib.Core.Path.{_≡_};
-ghost use Rattle.access.specs.Level.{levelNumber, levelOf};
+ghost use mathlib.Core.List.{_∷_, []};
+ghost use Rattle.wire.specs.Choice.{pick};
+ghost use Rattle.access.specs.Level.{levelNumber, levelOf, isLevel, numberRead};
 
 pub enum Mode {
     Normal,
@@ -15,10 +17,11 @@ pub enum Level {
     Setup,
 }
 
-// A packet comes plain, or encrypted with a level's key.
+// A packet comes plain, encrypted with a level's key, or under a number that no level has, which no command has a mark for.
 pub enum Access {
     Plain,
     Keyed(Level),
+    Unknown,
 }
 
 // A byte read as a level.
@@ -41,7 +44,7 @@ pub fn level_number(level: Level) -> u8
 
 // The level that has a number.
 pub fn level_of(number: u8) -> LevelRead
-    ensures { λ r. ⌜ r ≡ levelOf number ⌝ }
+    ensures { λ r. ⌜ (numberRead r ≡ pick (isLevel number) (number ∷ []) []) × (r ≡ levelOf number) ⌝ }
 {
     match number {
         0 => LevelRead::Known(Level::Admin),

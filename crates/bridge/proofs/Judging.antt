@@ -10,7 +10,7 @@ use lib.Seq.{take-at, drop-at}
 use lib.Dec.{eqb, ltb}
 use borrow.Author.Tests.{le-ltb, eqb-true, not-false, ltb-false}
 use Rattle.wire.specs.Rules.{Rule, _when_, orElse, firstBroken, verdict, judge}
-use Rattle.wire.proofs.Rules.{first-append, first-right, first-none}
+use Rattle.wire.proofs.Rules.{first-append, first-right, first-none, judge-pass}
 use Rattle.wire.proofs.Choice.{or-fails}
 use Rattle.wire.specs.Parts.{part, partOf}
 use Rattle.wire.specs.Writing.{Stores, noRoom}
@@ -40,10 +40,7 @@ first-stop xs ys {n} e h = e ∙ sym (first-append xs ys ∙ kept (firstBroken x
 pub first-pass : (xs ys : List Rule) {n m : ℕ} → n ≡ firstBroken xs → n ≡ 0 → m ≡ firstBroken ys → m ≡ firstBroken (xs ++ ys)
 first-pass xs ys e z q = q ∙ sym (first-right xs ys (sym e ∙ z))
 
--- none is broken, and one is
-pub judge-pass {ℓ} : {A : Type ℓ} (refuse : ℕ → A) (xs : List Rule) (good : A) → firstBroken xs ≡ 0 → judge refuse xs good ≡ good
-judge-pass refuse xs good e = ap (λ (n : ℕ). verdict refuse n good) e
-
+-- a rule is broken
 stop {ℓ} : {A : Type ℓ} (refuse : ℕ → A) (n : ℕ) (good : A) → (n ≡ 0 → ⊥) → verdict refuse n good ≡ refuse n
 stop refuse zero good h = absurd (h refl)
 stop refuse (suc n) good h = refl
@@ -76,7 +73,7 @@ module _ (n : ℕ) (text work : List ℕ) (long : length text ≡ 16 * n) where
   blocks-front : {after : List ℕ} {k : ℕ} → after ≡ text ++ drop (16 * n) work → k ≡ 16 * n → take k after ≡ text
   blocks-front {k} e h = ap (take k) e ∙ take-at text (drop (16 * n) work) k (long ∙ sym h)
 
-  -- the same as a part of the buffer
+  -- the blocks as a part of the buffer
   pub blocks-part : {after : List ℕ} {k : ℕ} → after ≡ text ++ drop (16 * n) work → k ≡ 16 * n → partOf after (part 0 k) ≡ text
   blocks-part {after} {k} e h =
       let l : length after ≡ length text + length (drop (16 * n) work) = ap length e ∙ length-append text (drop (16 * n) work) in

@@ -20,10 +20,10 @@ use Rattle.message.specs.declared.MessageRead.the-variants.{Accepted as ReadAcc
 use Rattle.envelope.specs.Blocks.{blocksIn, cleared}
 use Rattle.envelope.specs.Sealed.{messageIn}
 use Rattle.envelope.proofs.Envelopes.{length-deciphered}
-use Rattle.bridge.specs.Opener.{plainRules, told, sessionRules, entryRules, textOf, textRules, headRules, openRules, answerOf, workAfter, adminKey}
-use Rattle.bridge.specs.Opening.{refused, answerBy, plainAnswer, textAnswer, sealedAnswer, sealedWork, blocksAfter}
+use Rattle.bridge.specs.Opener.{plainRules, acceptedMessage, sessionRules, uartEntryRules, uartText, uartTextRules, headRules, uartOpenRules, answerOf, workAfter, adminKey}
+use Rattle.bridge.specs.Opening.{refusedAnswer, answerBy, plainAnswer, textAnswer, sealedAnswer, sealedWork, blocksAfter}
 use Rattle.bridge.proofs.Judging.{blocks-whole, stopped-before, accepted-behind, refused-behind}
-use Rattle.bridge.specs.declared.Setting.{Setting}
+use Rattle.bridge.specs.declared.Context.{Context}
 use Rattle.bridge.specs.declared.Answer.the-variants.{Accepted, Refused}
 use Rattle.bridge.specs.declared.Place.{Place}
 use Rattle.bridge.specs.declared.Refusal.{Refusal}
@@ -39,93 +39,93 @@ parts-at-most (Control c) = omega arith
 parts-at-most (HubReply f) = omega arith
 
 -- the answer by what a message was read as is its rules judged
-pub answer-read : (inWork : Bool) (start end : ℕ) (m : List ℕ) (f : Form) (g : Setting) → end ≡ start + length m
+pub answer-read : (inWork : Bool) (start end : ℕ) (m : List ℕ) (f : Form) (g : Context) → end ≡ start + length m
     → answerBy inWork start end (readMessage m f (g .required) (g .mode))
-    ≡ judge refused (messageRules f (g .required) (g .mode) m) (told inWork start m)
+    ≡ judge refusedAnswer (messageRules f (g .required) (g .mode) m) (acceptedMessage inWork start m)
 answer-read inWork start end m f g e =
     rw e
     (verdict-map (answerBy inWork start (start + length m)) ReadRefused (firstBroken (messageRules f (g .required) (g .mode) m)) (ReadAccepted (messageAt m)))
 
 -- a plain message of 2 to 507 bytes
-pub plain-passes : (g : Setting) (p : List ℕ) → 2 ≤ length p → length p ≤ 507
-    → plainAnswer g p ≡ judge refused (messageRules Plain (g .required) (g .mode) p) (told false 0 p)
+pub plain-passes : (g : Context) (p : List ℕ) → 2 ≤ length p → length p ≤ 507
+    → plainAnswer g p ≡ judge refusedAnswer (messageRules Plain (g .required) (g .mode) p) (acceptedMessage false 0 p)
 unfolding plainAnswer plainRules
 plain-passes g p h k =
     let e : (ltb (length p) 2 || ltb 507 (length p)) ≡ false = rw (le-ltb (length p) 2 h) (le-ltb 507 (length p) k) in
-    ap (λ (b : Bool). judge refused ((7 when b) ∷ messageRules Plain (g .required) (g .mode) p) (told false 0 p)) e
+    ap (λ (b : Bool). judge refusedAnswer ((7 when b) ∷ messageRules Plain (g .required) (g .mode) p) (acceptedMessage false 0 p)) e
 
 -- ---- an encrypted message, by what its text was read as
-none-broken : (n : ℕ) (l : List ℕ) {m : Message} {at : Place} → Accepted m at ≡ verdict refused n (told true 6 l) → n ≡ 0
+none-broken : (n : ℕ) (l : List ℕ) {m : Message} {at : Place} → Accepted m at ≡ verdict refusedAnswer n (acceptedMessage true 6 l) → n ≡ 0
 none-broken zero l e = refl
 none-broken (suc n) l e = absurd (let z : _≡_ {A = ℕ} 0 1 = cc in omega arith)
 
-some-broken : (n : ℕ) (l : List ℕ) {r : Refusal} → Refused r ≡ verdict refused n (told true 6 l) → n ≡ 0 → ⊥
+some-broken : (n : ℕ) (l : List ℕ) {r : Refusal} → Refused r ≡ verdict refusedAnswer n (acceptedMessage true 6 l) → n ≡ 0 → ⊥
 some-broken zero l e z = let y : _≡_ {A = ℕ} 0 1 = cc in omega arith
 some-broken (suc n) l e z = omega arith
 
-module _ (g : Setting) (p work : List ℕ) (entered : firstBroken (entryRules g (length work) p) ≡ 0) where
+module _ (g : Context) (p work : List ℕ) (entered : firstBroken (uartEntryRules g (length work) p) ≡ 0) where
   pub whole : (length p ≡ 4 + 16 * blocksIn p) × (16 * blocksIn p ≤ length work)
-  unfolding entryRules
+  unfolding uartEntryRules
   whole = blocks-whole p (length work) (sessionRules g (getD p 3 0)) entered
 
-  pub long : length (textOf g p) ≡ 16 * blocksIn p
-  unfolding textOf
+  pub long : length (uartText g p) ≡ 16 * blocksIn p
+  unfolding uartText
   long = length-deciphered (adminKey g .bytes) (g .session .nonce) p ∙ (let e : length p - 4 ≡ 16 * blocksIn p = omega (arith, whole .0) in e)
 
-  pub accepted-after : {m : Message} {at : Place} {after : List ℕ} → Accepted m at ≡ textAnswer g (textOf g p)
-      → after ≡ textOf g p ++ drop (16 * blocksIn p) work → (Accepted m at ≡ sealedAnswer g (length work) p) × (after ≡ sealedWork g p work)
+  pub accepted-after : {m : Message} {at : Place} {after : List ℕ} → Accepted m at ≡ textAnswer g (uartText g p)
+      → after ≡ uartText g p ++ drop (16 * blocksIn p) work → (Accepted m at ≡ sealedAnswer g (length work) p) × (after ≡ sealedWork g p work)
   unfolding textAnswer sealedAnswer sealedWork
   accepted-after e w =
-      let t = textOf g p in
-      accepted-behind refused (told true 6 (messageIn t)) (entryRules g (length work) p) (textRules g t) (blocksIn p) t work long entered e
-      (none-broken (firstBroken (textRules g t)) (messageIn t) e) w
+      let t = uartText g p in
+      accepted-behind refusedAnswer (acceptedMessage true 6 (messageIn t)) (uartEntryRules g (length work) p) (uartTextRules g t) (blocksIn p) t work long entered e
+      (none-broken (firstBroken (uartTextRules g t)) (messageIn t) e) w
 
-  pub refused-after : {r : Refusal} {before after : List ℕ} {k : ℕ} → Refused r ≡ textAnswer g (textOf g p)
-      → before ≡ textOf g p ++ drop (16 * blocksIn p) work → k ≡ 16 * blocksIn p → after ≡ cleared k before
+  pub refused-after : {r : Refusal} {before after : List ℕ} {k : ℕ} → Refused r ≡ textAnswer g (uartText g p)
+      → before ≡ uartText g p ++ drop (16 * blocksIn p) work → k ≡ 16 * blocksIn p → after ≡ cleared k before
       → (Refused r ≡ sealedAnswer g (length work) p) × (after ≡ sealedWork g p work)
   unfolding textAnswer sealedAnswer sealedWork
   refused-after e w q c =
-      let t = textOf g p in
-      refused-behind refused (told true 6 (messageIn t)) (entryRules g (length work) p) (textRules g t) (blocksIn p) t work long entered e
-      (some-broken (firstBroken (textRules g t)) (messageIn t) e) w q c
+      let t = uartText g p in
+      refused-behind refusedAnswer (acceptedMessage true 6 (messageIn t)) (uartEntryRules g (length work) p) (uartTextRules g t) (blocksIn p) t work long entered e
+      (some-broken (firstBroken (uartTextRules g t)) (messageIn t) e) w q c
 
 -- refused before it is deciphered
-pub refused-before : (g : Setting) (p work : List ℕ) (n : ℕ) → n ≡ firstBroken (entryRules g (length work) p) → (n ≡ 0 → ⊥)
-    → (refused n ≡ sealedAnswer g (length work) p) × (work ≡ sealedWork g p work)
+pub refused-before : (g : Context) (p work : List ℕ) (n : ℕ) → n ≡ firstBroken (uartEntryRules g (length work) p) → (n ≡ 0 → ⊥)
+    → (refusedAnswer n ≡ sealedAnswer g (length work) p) × (work ≡ sealedWork g p work)
 unfolding textAnswer sealedAnswer sealedWork
 refused-before g p work n e h =
-    stopped-before refused (told true 6 (messageIn (textOf g p))) (entryRules g (length work) p) (textRules g (textOf g p)) (blocksIn p) (textOf g p) work e h
+    stopped-before refusedAnswer (acceptedMessage true 6 (messageIn (uartText g p))) (uartEntryRules g (length work) p) (uartTextRules g (uartText g p)) (blocksIn p) (uartText g p) work e h
 
 -- ---- a frame
-module _ (g : Setting) (room : ℕ) (p : List ℕ) where
+module _ (g : Context) (room : ℕ) (p : List ℕ) where
   pub sealed-frame : sealedAnswer g room p ≡ answerOf g room 1 128 p
-  unfolding sealedAnswer textAnswer answerOf openRules
-  sealed-frame = sym (judge-append refused (entryRules g room p) (textRules g (textOf g p)) (told true 6 (messageIn (textOf g p))))
+  unfolding sealedAnswer textAnswer answerOf uartOpenRules
+  sealed-frame = sym (judge-append refusedAnswer (uartEntryRules g room p) (uartTextRules g (uartText g p)) (acceptedMessage true 6 (messageIn (uartText g p))))
 
   pub plain-frame : plainAnswer g p ≡ answerOf g room 1 0 p
-  unfolding plainAnswer answerOf openRules
+  unfolding plainAnswer answerOf uartOpenRules
   plain-frame = refl
 
-pub sealed-left : (g : Setting) (p work : List ℕ) → sealedWork g p work ≡ workAfter g 1 128 p work
+pub sealed-left : (g : Context) (p work : List ℕ) → sealedWork g p work ≡ workAfter g 1 128 p work
 unfolding sealedWork workAfter
 sealed-left g p work = refl
 
-pub plain-left : (g : Setting) (p work : List ℕ) → work ≡ workAfter g 1 0 p work
+pub plain-left : (g : Context) (p work : List ℕ) → work ≡ workAfter g 1 0 p work
 unfolding workAfter
 plain-left g p work = refl
 
 -- 5, and 6
-pub wrong-major : (g : Setting) (room major wrapper : ℕ) (p work : List ℕ) → (major ≡ 1 → ⊥)
-    → (answerOf g room major wrapper p ≡ refused 5) × (workAfter g major wrapper p work ≡ work)
-unfolding answerOf openRules workAfter
+pub wrong-major : (g : Context) (room major wrapper : ℕ) (p work : List ℕ) → (major ≡ 1 → ⊥)
+    → (answerOf g room major wrapper p ≡ refusedAnswer 5) × (workAfter g major wrapper p work ≡ work)
+unfolding answerOf uartOpenRules workAfter
 wrong-major g room major wrapper p work h = (simp (ne-eqb _ _ h), either (eqb wrapper 128))
   where
     either : (b : Bool) → pick b
-        (judge (λ n. work) (headRules major wrapper ++ entryRules g (length work) p) (blocksAfter (blocksIn p) (textRules g (textOf g p)) (textOf g p) work)) work ≡ work
+        (judge (λ n. work) (headRules major wrapper ++ uartEntryRules g (length work) p) (blocksAfter (blocksIn p) (uartTextRules g (uartText g p)) (uartText g p) work)) work ≡ work
     either true = simp (ne-eqb _ _ h)
     either false = refl
 
-pub wrong-wrapper : (g : Setting) (room wrapper : ℕ) (p work : List ℕ) → (wrapper ≡ 128 → ⊥) → (wrapper ≡ 0 → ⊥)
-    → (answerOf g room 1 wrapper p ≡ refused 6) × (workAfter g 1 wrapper p work ≡ work)
-unfolding answerOf openRules workAfter
+pub wrong-wrapper : (g : Context) (room wrapper : ℕ) (p work : List ℕ) → (wrapper ≡ 128 → ⊥) → (wrapper ≡ 0 → ⊥)
+    → (answerOf g room 1 wrapper p ≡ refusedAnswer 6) × (workAfter g 1 wrapper p work ≡ work)
+unfolding answerOf uartOpenRules workAfter
 wrong-wrapper g room wrapper p work h k = (simp (ne-eqb _ _ k, ne-eqb _ _ h), simp (ne-eqb _ _ h))

@@ -1,5 +1,8 @@
 pub mod Reply
 pub mod Place
+pub mod Content
 pub mod Opener
 pub mod Characteristic
 pub mod Opening
+pub mod Accepts
+pub mod RoundTrip

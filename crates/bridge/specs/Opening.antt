@@ -1,4 +1,4 @@
--- How the code splits an opening: what its own functions say. The laws in proofs/Opening.antt put them together.
+-- How the code splits an opening: what its own functions give. The laws in proofs/Opening.antt put them together.
 use Prim.Native.Nat.{ℕ, _+_, _*_}
 use mathlib.Core.Bool.{Bool, true, false}
 use mathlib.Core.List.{List, _++_}
@@ -11,52 +11,52 @@ use Rattle.control.specs.declared.ControlRead.{ControlRead}
 use Rattle.control.specs.declared.ControlRead.the-variants.{Accepted as ControlAccepted, Refused as ControlRefused}
 use Rattle.envelope.specs.Blocks.{blocksIn}
 use Rattle.envelope.specs.Sealed.{messageIn}
-use Rattle.bridge.specs.Reply.{refusal, characteristicRefusal}
-use Rattle.bridge.specs.Place.{placed}
-use Rattle.bridge.specs.Opener.{plainRules, entryRules, textRules, textOf, told}
-use Rattle.bridge.specs.Characteristic.{commandTold, textRules as characteristicTextRules}
-use Rattle.bridge.specs.declared.Setting.{Setting}
+use Rattle.bridge.specs.Reply.{refusalOf, characteristicRefusal}
+use Rattle.bridge.specs.Place.{placeFrom}
+use Rattle.bridge.specs.Opener.{plainRules, uartEntryRules, uartTextRules, uartText, acceptedMessage}
+use Rattle.bridge.specs.Characteristic.{acceptedCommand, packetTextRules}
+use Rattle.bridge.specs.declared.Context.{Context}
 use Rattle.bridge.specs.declared.Link.{Link}
 use Rattle.bridge.specs.declared.Answer.{Answer}
 use Rattle.bridge.specs.declared.Answer.the-variants.{Accepted, Refused}
 use Rattle.bridge.specs.declared.CommandAnswer.{CommandAnswer}
 use Rattle.bridge.specs.declared.CommandAnswer.the-variants.{Accepted as CommandAccepted, Refused as CommandRefused}
 
-abbrev pub refused : ℕ → Answer
-refused n = Refused (refusal n)
+abbrev pub refusedAnswer : ℕ → Answer
+refusedAnswer n = Refused (refusalOf n)
 
 -- the answer by what a message was read as: where it begins, and where it ends
 abbrev pub answerBy : Bool → ℕ → ℕ → MessageRead → Answer
-answerBy inWork start end (ReadAccepted m) = Accepted m (placed inWork (start + (2 + partsAt m)) end)
-answerBy inWork start end (ReadRefused n) = refused n
+answerBy inWork start end (ReadAccepted m) = Accepted m (placeFrom inWork (start + (2 + partsAt m)) end)
+answerBy inWork start end (ReadRefused n) = refusedAnswer n
 
 -- a plain message; what an encrypted one deciphered to; an encrypted one
-unfoldable pub plainAnswer : Setting → List ℕ → Answer
-plainAnswer g p = judge refused (plainRules g p) (told false 0 p)
+unfoldable pub plainAnswer : Context → List ℕ → Answer
+plainAnswer g p = judge refusedAnswer (plainRules g p) (acceptedMessage false 0 p)
 
-unfoldable pub textAnswer : Setting → List ℕ → Answer
-textAnswer g text = judge refused (textRules g text) (told true 6 (messageIn text))
+unfoldable pub textAnswer : Context → List ℕ → Answer
+textAnswer g text = judge refusedAnswer (uartTextRules g text) (acceptedMessage true 6 (messageIn text))
 
-unfoldable pub sealedAnswer : Setting → ℕ → List ℕ → Answer
-sealedAnswer g room p = judge refused (entryRules g room p) (textAnswer g (textOf g p))
+unfoldable pub sealedAnswer : Context → ℕ → List ℕ → Answer
+sealedAnswer g room p = judge refusedAnswer (uartEntryRules g room p) (textAnswer g (uartText g p))
 
 -- what is left of n blocks by the rules of what they deciphered to, before the bytes that stay
 abbrev pub blocksAfter : ℕ → List Rule → List ℕ → List ℕ → List ℕ
 blocksAfter n rules text work = judge (λ k. replicate (16 * n) 0) rules text ++ drop (16 * n) work
 
-unfoldable pub sealedWork : Setting → List ℕ → List ℕ → List ℕ
+unfoldable pub sealedWork : Context → List ℕ → List ℕ → List ℕ
 sealedWork g p work =
-    judge (λ n. work) (entryRules g (length work) p) (blocksAfter (blocksIn p) (textRules g (textOf g p)) (textOf g p) work)
+    judge (λ n. work) (uartEntryRules g (length work) p) (blocksAfter (blocksIn p) (uartTextRules g (uartText g p)) (uartText g p) work)
 
--- ---- the other route
-abbrev pub commandRefused : ℕ → CommandAnswer
-commandRefused n = CommandRefused (characteristicRefusal n)
+-- ---- a characteristic packet
+abbrev pub refusedCommand : ℕ → CommandAnswer
+refusedCommand n = CommandRefused (characteristicRefusal n)
 
 -- a command by what a packet was read as: where it ends, behind the validation key
 abbrev pub commandAnswerBy : ℕ → ControlRead → CommandAnswer
-commandAnswerBy end (ControlAccepted c) = CommandAccepted c (placed true 9 end)
-commandAnswerBy end (ControlRefused n) = commandRefused n
+commandAnswerBy end (ControlAccepted c) = CommandAccepted c (placeFrom true 9 end)
+commandAnswerBy end (ControlRefused n) = refusedCommand n
 
 -- what a packet deciphered to
 unfoldable pub commandTextAnswer : Link → ℕ → List ℕ → CommandAnswer
-commandTextAnswer k level text = judge commandRefused (characteristicTextRules k level text) (commandTold text)
+commandTextAnswer k level text = judge refusedCommand (packetTextRules k level text) (acceptedCommand text)

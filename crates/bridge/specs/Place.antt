@@ -7,9 +7,9 @@ use Rattle.wire.specs.Parts.{part, partOf}
 use Rattle.bridge.specs.declared.Place.{Place}
 
 -- the bytes from a place on, of so many in all
-abbrev pub placed : Bool → ℕ → ℕ → Place
-placed inWork start end = record { «in_work» = inWork; part = part start (end - start) }
+abbrev pub placeFrom : Bool → ℕ → ℕ → Place
+placeFrom inWork start end = record { «in_work» = inWork; part = part start (end - start) }
 
 -- the bytes there, of the slice that holds them
-unfoldable pub payloadOf : List ℕ → List ℕ → Place → List ℕ
-payloadOf frame work p = partOf (pick (p .«in_work») work frame) (p .part)
+unfoldable pub payloadAt : List ℕ → List ℕ → Place → List ℕ
+payloadAt frame work p = partOf (pick (p .«in_work») work frame) (p .part)

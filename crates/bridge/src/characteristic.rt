@@ -1,6 +1,7 @@
 // The opener of characteristic packets.
 use crate::CommandAnswer;
 use crate::Link;
+use crate::OpenedCommand;
 use crate::Place;
 use crate::blocks::block_refusal;
 use crate::replies::characteristic_refusal;
@@ -37,7 +38,7 @@ fn connection_refusal(link: Link, level: u8) -> u8
 
 // What is refused of a packet before it is deciphered: 7, 25, 10, 8, or 0.
 fn entry_refusal(packet: &[u8], room: usize, link: Link) -> u8
-    ensures { λ r. ⌜ r ≡ firstBroken (specs.entryRules link room (now (packet .entry))) ⌝ }
+    ensures { λ r. ⌜ r ≡ firstBroken (specs.packetEntryRules link room (now (packet .entry))) ⌝ }
 {
     let early = block_refusal(packet, room);
     if early != 0 {
@@ -52,7 +53,7 @@ fn access_for(level: u8) -> Access
 {
     match access::level_of(level) {
         LevelRead::Known(l) => Access::Keyed(l),
-        LevelRead::Unknown => Access::Plain,
+        LevelRead::Unknown => Access::Unknown,
     }
 }
 
@@ -98,14 +99,14 @@ fn read_text(text: &[u8], level: u8, link: Link) -> CommandAnswer
     let mode = link.mode;
     answer_by(
         end_of(packet),
-        control::read_command(packet, mode, access_for(level)),
+        control::read_control(packet, mode, access_for(level)),
     )
 }
 
 // The blocks of a packet into the work buffer, which has room for them.
 fn decipher(packet: &[u8], link: Link, work: &mut [u8])
-    requires { ⌜ firstBroken (specs.entryRules link (length (now work)) (now packet)) ≡ 0 ⌝ }
-    ensures { λ _. ⌜ now (work .exit) ≡ specs.textOf link (now (packet .entry)) ++ drop (16 * blocksIn (now (packet .entry))) (now (work .entry)) ⌝ }
+    requires { ⌜ firstBroken (specs.packetEntryRules link (length (now work)) (now packet)) ≡ 0 ⌝ }
+    ensures { λ _. ⌜ now (work .exit) ≡ specs.packetText link (now (packet .entry)) ++ drop (16 * blocksIn (now (packet .entry))) (now (work .entry)) ⌝ }
 {
     let keys = link.keys;
     let mode = link.mode;
@@ -116,8 +117,8 @@ fn decipher(packet: &[u8], link: Link, work: &mut [u8])
     envelope::decipher(bytes, nonce, packet, work);
 }
 
-// Opens a characteristic packet: the command and where its payload lies, or the refusal with its reply.
-pub fn open(packet: &[u8], link: Link, work: &mut [u8]) -> CommandAnswer
+// A packet's answer.
+fn open_packet(packet: &[u8], link: Link, work: &mut [u8]) -> CommandAnswer
     ensures { λ a. ⌜ (a ≡ specs.characteristicAnswerOf link (length (now (work .entry))) (now (packet .entry)))
         × (now (work .exit) ≡ specs.characteristicWorkAfter link (now (packet .entry)) (now (work .entry))) ⌝ }
 {
@@ -136,4 +137,13 @@ pub fn open(packet: &[u8], link: Link, work: &mut [u8]) -> CommandAnswer
             CommandAnswer::Refused(r)
         }
     }
+}
+
+// Opens a characteristic packet: the command and where its payload lies, or the refusal with its reply; and the connection session after it.
+pub fn open(packet: &[u8], link: Link, work: &mut [u8]) -> OpenedCommand
+    ensures { λ r. ⌜ specs.OpensPacket link (now (packet .entry)) (now (work .entry)) r (now (work .exit)) ⌝ }
+{
+    let answer = open_packet(packet, link, work);
+    let connection = link.connection;
+    OpenedCommand { answer, connection }
 }

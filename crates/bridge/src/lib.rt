@@ -13,10 +13,10 @@ use session::Session;
 use units::Seconds;
 use wire::Part;
 ghost use mathlib.Core.Path.{_≡_};
-ghost use Rattle.bridge.specs.Place.{payloadOf};
+ghost use Rattle.bridge.specs.Place.{payloadAt};
 
 // What the opener of frames is given beside a frame and the work buffer.
-pub struct Setting {
+pub struct Context {
     pub session: Session,
     pub time: Seconds,
     pub keys: Keys,
@@ -61,14 +61,20 @@ pub struct Opened {
     pub session: Session,
 }
 
+// The place is where the command's payload lies.
 pub enum CommandAnswer {
     Accepted(Command, Place),
     Refused(Refusal),
 }
 
+pub struct OpenedCommand {
+    pub answer: CommandAnswer,
+    pub connection: Connection,
+}
+
 // The payload of what was accepted, plain or deciphered, from the slice that holds it.
 pub fn payload<'a>(frame: &'a [u8], work: &'a [u8], place: Place) -> &'a [u8]
-    ensures { λ r. ⌜ now r ≡ payloadOf (now (frame .entry)) (now (work .entry)) place ⌝ }
+    ensures { λ r. ⌜ now r ≡ payloadAt (now (frame .entry)) (now (work .entry)) place ⌝ }
 {
     let part = place.part;
     if place.in_work {

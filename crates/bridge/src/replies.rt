@@ -6,7 +6,7 @@ ghost use Rattle.bridge.specs.Reply as table;
 
 // The reply that a refusal gets on the UART.
 fn reply_of(number: u8) -> Reply
-    ensures { λ r. ⌜ r ≡ table.replyOf number ⌝ }
+    ensures { λ r. ⌜ (table.replyEntry r ≡ table.entryOf number) × (r ≡ table.replyFor (table.entryOf number)) ⌝ }
 {
     match number {
         5 => Reply::Error(9900),
@@ -35,7 +35,7 @@ fn reply_of(number: u8) -> Reply
 
 // The reply on the characteristic.
 fn characteristic_reply_of(number: u8) -> Reply
-    ensures { λ r. ⌜ r ≡ table.characteristicReplyOf number ⌝ }
+    ensures { λ r. ⌜ (table.replyEntry r ≡ table.characteristicEntryOf number) × (r ≡ table.replyFor (table.characteristicEntryOf number)) ⌝ }
 {
     if number < 18 {
         return Reply::Nothing;
@@ -48,7 +48,7 @@ fn characteristic_reply_of(number: u8) -> Reply
 
 // A refusal on the UART.
 pub fn refusal(number: u8) -> Refusal
-    ensures { λ r. ⌜ r ≡ table.refusal number ⌝ }
+    ensures { λ r. ⌜ r ≡ table.refusalOf number ⌝ }
 {
     let reply = reply_of(number);
     Refusal { number, reply }

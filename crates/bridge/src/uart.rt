@@ -1,8 +1,8 @@
 // The opener of frames.
 use crate::Answer;
+use crate::Context;
 use crate::Opened;
 use crate::Place;
-use crate::Setting;
 use crate::blocks::block_refusal;
 use crate::replies::refusal;
 use access::Level;
@@ -21,15 +21,15 @@ ghost use Rattle.bridge.specs.Opener as specs;
 ghost use Rattle.bridge.specs.Opening as opening;
 
 // The session after an accepted message: only a session nonce changes it.
-fn session_by(setting: Setting, m: Message) -> Session
-    ensures { λ s. ⌜ s ≡ specs.sessionBy setting m ⌝ }
+fn session_by(context: Context, m: Message) -> Session
+    ensures { λ s. ⌜ s ≡ specs.sessionBy context m ⌝ }
 {
-    let session = setting.session;
+    let session = context.session;
     match m {
         Message::Hello(_) => session,
         Message::SessionNonce(f) => {
             let n = f.nonce;
-            session.with_nonce([n.0, n.1, n.2, n.3, n.4], f.timeout, setting.time)
+            session.with_nonce([n.0, n.1, n.2, n.3, n.4], f.timeout, context.time)
         }
         Message::Heartbeat(_) => session,
         Message::Status(_) => session,
@@ -39,13 +39,13 @@ fn session_by(setting: Setting, m: Message) -> Session
     }
 }
 
-fn session_after(setting: Setting, answer: Answer) -> Session
-    ensures { λ s. ⌜ s ≡ specs.sessionAfter setting answer ⌝ }
+fn session_after(context: Context, answer: Answer) -> Session
+    ensures { λ s. ⌜ s ≡ specs.sessionAfter context answer ⌝ }
 {
     match answer {
-        Answer::Accepted(m, _) => session_by(setting, m),
+        Answer::Accepted(m, _) => session_by(context, m),
         Answer::Refused(_) => {
-            let session = setting.session;
+            let session = context.session;
             session
         }
     }
@@ -82,9 +82,9 @@ fn answer_by(in_work: bool, start: usize, end: usize, read: MessageRead) -> Answ
     }
 }
 
-// A plain message: 7, 14 to 24, or what it says.
-fn open_plain(payload: &[u8], setting: Setting) -> Answer
-    ensures { λ a. ⌜ a ≡ opening.plainAnswer setting (now (payload .entry)) ⌝ }
+// A plain message: 7, 14 to 24, or the message.
+fn open_plain(payload: &[u8], context: Context) -> Answer
+    ensures { λ a. ⌜ a ≡ opening.plainAnswer context (now (payload .entry)) ⌝ }
 {
     if payload.len() < 2 {
         return Answer::Refused(refusal(7));
@@ -92,29 +92,29 @@ fn open_plain(payload: &[u8], setting: Setting) -> Answer
     if 507 < payload.len() {
         return Answer::Refused(refusal(7));
     }
-    let mode = setting.mode;
+    let mode = context.mode;
     answer_by(
         false,
         0,
         payload.len(),
-        message::read_message(payload, Form::Plain, setting.required, mode),
+        message::read_message(payload, Form::Plain, context.required, mode),
     )
 }
 
 // 10, 8 and 9, or 0.
-fn session_refusal(setting: Setting, id: u8) -> u8
-    ensures { λ r. ⌜ r ≡ firstBroken (specs.sessionRules setting id) ⌝ }
+fn session_refusal(context: Context, id: u8) -> u8
+    ensures { λ r. ⌜ r ≡ firstBroken (specs.sessionRules context id) ⌝ }
 {
     if id != 0 {
         return 10;
     }
-    let keys = setting.keys;
-    let mode = setting.mode;
+    let keys = context.keys;
+    let mode = context.mode;
     let key = keys.serving(mode, Level::Admin);
     if key.held {
-        let session = setting.session;
+        let session = context.session;
         if session.held {
-            if session.valid_at(setting.time) {
+            if session.valid_at(context.time) {
                 return 0;
             }
             return 9;
@@ -125,14 +125,14 @@ fn session_refusal(setting: Setting, id: u8) -> u8
 }
 
 // What is refused of an encrypted message before it is deciphered: 7, 25, 10, 8, 9, or 0.
-fn entry_refusal(payload: &[u8], room: usize, setting: Setting) -> u8
-    ensures { λ r. ⌜ r ≡ firstBroken (specs.entryRules setting room (now (payload .entry))) ⌝ }
+fn entry_refusal(payload: &[u8], room: usize, context: Context) -> u8
+    ensures { λ r. ⌜ r ≡ firstBroken (specs.uartEntryRules context room (now (payload .entry))) ⌝ }
 {
     let early = block_refusal(payload, room);
     if early != 0 {
         return early;
     }
-    session_refusal(setting, wire::byte_at(payload, 3))
+    session_refusal(context, wire::byte_at(payload, 3))
 }
 
 // Where a message ends that stands behind CAFEBABE and its size.
@@ -143,51 +143,51 @@ fn end_of(m: &[u8]) -> usize
     6 + m.len()
 }
 
-// What an encrypted message deciphered to: 11 to 24, or what it says.
-fn read_text(text: &[u8], setting: Setting) -> Answer
-    ensures { λ a. ⌜ a ≡ opening.textAnswer setting (now (text .entry)) ⌝ }
+// What an encrypted message deciphered to: 11 to 24, or the message.
+fn read_text(text: &[u8], context: Context) -> Answer
+    ensures { λ a. ⌜ a ≡ opening.textAnswer context (now (text .entry)) ⌝ }
 {
     let late = envelope::judge_text(text);
     if late != 0 {
         return Answer::Refused(refusal(late));
     }
     let m = envelope::message_in(text);
-    let mode = setting.mode;
+    let mode = context.mode;
     answer_by(
         true,
         6,
         end_of(m),
-        message::read_message(m, Form::Encrypted, setting.required, mode),
+        message::read_message(m, Form::Encrypted, context.required, mode),
     )
 }
 
 // The blocks of an encrypted message into the work buffer, which has room for them.
-fn decipher(payload: &[u8], setting: Setting, work: &mut [u8])
-    requires { ⌜ firstBroken (specs.entryRules setting (length (now work)) (now payload)) ≡ 0 ⌝ }
-    ensures { λ _. ⌜ now (work .exit) ≡ specs.textOf setting (now (payload .entry)) ++ drop (16 * blocksIn (now (payload .entry))) (now (work .entry)) ⌝ }
+fn decipher(payload: &[u8], context: Context, work: &mut [u8])
+    requires { ⌜ firstBroken (specs.uartEntryRules context (length (now work)) (now payload)) ≡ 0 ⌝ }
+    ensures { λ _. ⌜ now (work .exit) ≡ specs.uartText context (now (payload .entry)) ++ drop (16 * blocksIn (now (payload .entry))) (now (work .entry)) ⌝ }
 {
-    let keys = setting.keys;
-    let mode = setting.mode;
+    let keys = context.keys;
+    let mode = context.mode;
     let key = keys.serving(mode, Level::Admin);
     let bytes = key.bytes;
-    let session = setting.session;
+    let session = context.session;
     let nonce = session.nonce;
     envelope::decipher(bytes, nonce, payload, work);
 }
 
 // An encrypted message.
-fn open_sealed(payload: &[u8], setting: Setting, work: &mut [u8]) -> Answer
-    ensures { λ a. ⌜ (a ≡ opening.sealedAnswer setting (length (now (work .entry))) (now (payload .entry)))
-        × (now (work .exit) ≡ opening.sealedWork setting (now (payload .entry)) (now (work .entry))) ⌝ }
+fn open_sealed(payload: &[u8], context: Context, work: &mut [u8]) -> Answer
+    ensures { λ a. ⌜ (a ≡ opening.sealedAnswer context (length (now (work .entry))) (now (payload .entry)))
+        × (now (work .exit) ≡ opening.sealedWork context (now (payload .entry)) (now (work .entry))) ⌝ }
 {
-    let early = entry_refusal(payload, work.len(), setting);
+    let early = entry_refusal(payload, work.len(), context);
     if early != 0 {
         return Answer::Refused(refusal(early));
     }
-    decipher(payload, setting, work);
+    decipher(payload, context, work);
     let n = payload.len() - 4;
     let blocks = Part { start: 0, len: n };
-    let answer = read_text(wire::part_of(work, blocks), setting);
+    let answer = read_text(wire::part_of(work, blocks), context);
     match answer {
         Answer::Accepted(m, at) => Answer::Accepted(m, at),
         Answer::Refused(r) => {
@@ -198,20 +198,20 @@ fn open_sealed(payload: &[u8], setting: Setting, work: &mut [u8]) -> Answer
 }
 
 // A frame's answer.
-fn open_frame(major: u8, wrapper: u8, payload: &[u8], setting: Setting, work: &mut [u8]) -> Answer
-    ensures { λ a. ⌜ (a ≡ specs.answerOf setting (length (now (work .entry))) major wrapper (now (payload .entry)))
-        × (now (work .exit) ≡ specs.workAfter setting major wrapper (now (payload .entry)) (now (work .entry))) ⌝ }
+fn open_frame(major: u8, wrapper: u8, payload: &[u8], context: Context, work: &mut [u8]) -> Answer
+    ensures { λ a. ⌜ (a ≡ specs.answerOf context (length (now (work .entry))) major wrapper (now (payload .entry)))
+        × (now (work .exit) ≡ specs.workAfter context major wrapper (now (payload .entry)) (now (work .entry))) ⌝ }
 {
     if major != 1 {
         return Answer::Refused(refusal(5));
     }
     if wrapper == 128 {
-        return open_sealed(payload, setting, work);
+        return open_sealed(payload, context, work);
     }
     if wrapper != 0 {
         return Answer::Refused(refusal(6));
     }
-    open_plain(payload, setting)
+    open_plain(payload, context)
 }
 
 // Opens a frame: the message and where its payload lies, or the refusal with its reply; and the session after it. Any minor is accepted.
@@ -220,13 +220,12 @@ pub fn open(
     minor: u8,
     wrapper: u8,
     payload: &[u8],
-    setting: Setting,
+    context: Context,
     work: &mut [u8],
 ) -> Opened
-    ensures { λ r. ⌜ (r ≡ specs.opened setting (length (now (work .entry))) major wrapper (now (payload .entry)))
-        × (now (work .exit) ≡ specs.workAfter setting major wrapper (now (payload .entry)) (now (work .entry))) ⌝ }
+    ensures { λ r. ⌜ specs.OpensFrame context major wrapper (now (payload .entry)) (now (work .entry)) r (now (work .exit)) ⌝ }
 {
-    let answer = open_frame(major, wrapper, payload, setting, work);
-    let session = session_after(setting, answer);
+    let answer = open_frame(major, wrapper, payload, context, work);
+    let session = session_after(context, answer);
     Opened { answer, session }
 }

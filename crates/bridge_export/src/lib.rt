@@ -1,7 +1,7 @@
 // The opener of sealed messages for programs in other languages.
 use access::Mode;
 use bridge::Answer;
-use bridge::Setting;
+use bridge::Context;
 use control::Command;
 use message::Message;
 use session::Key;
@@ -14,7 +14,7 @@ ghost use mathlib.Core.Path.{_≡_};
 ghost use lib.ListN.{length};
 ghost use Rattle.wire.specs.Parts.{part, partOf};
 ghost use Rattle.bridge.specs.Opener.{opened, workAfter};
-ghost use Rattle.bridge_export.specs.Numbering.{packed, commandNumber, messageNumber, answerNumber, settingOf};
+ghost use Rattle.bridge_export.specs.Numbering.{packed, packedCommand, packedMessage, packedAnswer, contextOf};
 
 // The low two bytes of three numbers.
 fn pack(a: u64, b: u64, c: u64) -> u64
@@ -23,8 +23,8 @@ fn pack(a: u64, b: u64, c: u64) -> u64
     a % 65536 + (65536 * (b % 65536) + 4294967296 * (c % 65536))
 }
 
-fn command_number(c: Command) -> u64
-    ensures { λ r. ⌜ r ≡ commandNumber c ⌝ }
+fn packed_command(c: Command) -> u64
+    ensures { λ r. ⌜ r ≡ packedCommand c ⌝ }
 {
     match c {
         Command::Setup(f) => {
@@ -52,8 +52,8 @@ fn command_number(c: Command) -> u64
     }
 }
 
-fn message_number(m: Message) -> u64
-    ensures { λ r. ⌜ r ≡ messageNumber m ⌝ }
+fn packed_message(m: Message) -> u64
+    ensures { λ r. ⌜ r ≡ packedMessage m ⌝ }
 {
     match m {
         Message::Hello(flags) => pack(1000, flags as u64, 0),
@@ -65,7 +65,7 @@ fn message_number(m: Message) -> u64
         Message::Heartbeat(t) => pack(1002, t.0, 0),
         Message::Status(f) => pack(1003, f.kind as u64, f.flags as u64),
         Message::GetMac => pack(1004, 0, 0),
-        Message::Control(c) => command_number(c),
+        Message::Control(c) => packed_command(c),
         Message::HubReply(f) => {
             let data = f.data;
             pack(1011, f.code as u64, data.len as u64)
@@ -73,19 +73,19 @@ fn message_number(m: Message) -> u64
     }
 }
 
-fn answer_number(a: Answer) -> u64
-    ensures { λ r. ⌜ r ≡ answerNumber a ⌝ }
+fn packed_answer(a: Answer) -> u64
+    ensures { λ r. ⌜ r ≡ packedAnswer a ⌝ }
 {
     match a {
-        Answer::Accepted(m, _) => message_number(m),
+        Answer::Accepted(m, _) => packed_message(m),
         Answer::Refused(r) => r.number as u64,
     }
 }
 
-fn setting(key: [u8; 16], nonce: [u8; 5], minutes: u64, since: u64, time: u64) -> Setting
-    ensures { λ r. ⌜ r ≡ settingOf key nonce minutes since time ⌝ }
+fn context(key: [u8; 16], nonce: [u8; 5], minutes: u64, since: u64, time: u64) -> Context
+    ensures { λ r. ⌜ r ≡ contextOf key nonce minutes since time ⌝ }
 {
-    Setting {
+    Context {
         session: Session {
             held: true,
             nonce,
@@ -119,12 +119,12 @@ pub extern "C" fn cloudgraze_open(
     len: usize,
     work: &mut [u8; 496],
 ) -> u64
-    ensures { λ r. ⌜ (r ≡ answerNumber (opened (settingOf (now (key .entry)) (now (nonce .entry)) minutes since time) (length (now (work .entry))) 1 128 (partOf (now (payload .entry)) (part 0 len)) .answer))
-        × (now (work .exit) ≡ workAfter (settingOf (now (key .entry)) (now (nonce .entry)) minutes since time) 1 128 (partOf (now (payload .entry)) (part 0 len)) (now (work .entry))) ⌝ }
+    ensures { λ r. ⌜ (r ≡ packedAnswer (opened (contextOf (now (key .entry)) (now (nonce .entry)) minutes since time) (length (now (work .entry))) 1 128 (partOf (now (payload .entry)) (part 0 len)) .answer))
+        × (now (work .exit) ≡ workAfter (contextOf (now (key .entry)) (now (nonce .entry)) minutes since time) 1 128 (partOf (now (payload .entry)) (part 0 len)) (now (work .entry))) ⌝ }
 {
-    let given = setting(*key, *nonce, minutes, since, time);
+    let given = context(*key, *nonce, minutes, since, time);
     let front = wire::part_of(payload, Part { start: 0, len });
     let r = bridge::uart::open(1, 0, 128, front, given, work);
     let answer = r.answer;
-    answer_number(answer)
+    packed_answer(answer)
 }

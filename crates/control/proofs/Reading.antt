@@ -1,19 +1,19 @@
 -- The reader's rules, group by group. Assumes nothing.
 use mathlib.Core.Path.{_≡_, sym, ap, _∙_}
-use Prim.Native.Nat.{ℕ, _+_}
-use mathlib.Core.Bool.{true, false}
+use Prim.Native.Nat.{ℕ}
+use mathlib.Core.Bool.{true}
 use mathlib.Core.List.{List}
-use lib.ListN.{length, getD, drop}
+use lib.ListN.{drop}
 use borrow.Author.Tests.{eqb-true, eq-eqb, not-false}
 use Rattle.wire.specs.Numbers.{num}
 use Rattle.wire.specs.Rules.{judge, firstBroken}
-use Rattle.wire.specs.Fields.{wrongSize, wrongFields}
 use Rattle.wire.proofs.Rules.{judge-append}
 use Rattle.wire.proofs.Held.{held, unbroken}
 use Rattle.access.specs.declared.Mode.{Mode}
 use Rattle.access.specs.declared.Access.{Access}
-use Rattle.control.specs.Table.{Row, rowOf, inMode, hasMark}
+use Rattle.control.specs.Table.{Row, rowOf}
 use Rattle.control.specs.Control.{lengthRules, commandRules, controlRules, rowRules, markRules, payloadRules, commandOf, commandAt, readControl, readCommand, readRow, readPayload}
+use Rattle.control.specs.Accepts.{Permits, Accepts}
 use Rattle.control.specs.declared.ControlRead.{ControlRead}
 use Rattle.control.specs.declared.ControlRead.the-variants.{Accepted, Refused}
 
@@ -30,14 +30,6 @@ pub control-read : (p : List ℕ) (m : Mode) (a : Access) → readControl p m a 
 control-read p m a = judge-append Refused (lengthRules p) (commandRules p m a) (Accepted (commandAt p))
 
 -- ---- no rule is broken
--- a row permits a payload in a mode, at an access
-pub record Permits (r : Row) (q : List ℕ) (m : Mode) (a : Access) : Type 0 where
-  pub listed : r .listed ≡ true
-  pub mode : inMode m (r .marked) ≡ true
-  pub level : hasMark a (r .marked) ≡ true
-  pub sized : wrongSize (r .payload .size) q ≡ false
-  pub right : wrongFields (r .payload) q ≡ false
-
 pub row-permits : (r : Row) (q : List ℕ) (m : Mode) (a : Access) → firstBroken (rowRules r q m a) ≡ 0 → Permits r q m a
 row-permits r q m a e =
     let h = held (rowRules r q m a) (tt, (tt, (tt, (tt, (tt, tt))))) e in
@@ -51,12 +43,6 @@ row-permits r q m a e =
 
 pub row-clear : (r : Row) (q : List ℕ) (m : Mode) (a : Access) → Permits r q m a → firstBroken (rowRules r q m a) ≡ 0
 row-clear r q m a w = rw (w .listed, w .mode, w .level, w .sized, w .right)
-
--- a packet that is accepted
-pub record Accepts (p : List ℕ) (m : Mode) (a : Access) : Type 0 where
-  pub long : length p ≡ 5 + num 2 3 p
-  pub protocol : getD p 0 0 ≡ 5
-  pub permits : Permits (rowOf (num 2 1 p)) (drop 5 p) m a
 
 pub control-accepts : (p : List ℕ) (m : Mode) (a : Access) → firstBroken (controlRules p m a) ≡ 0 → Accepts p m a
 control-accepts p m a e =

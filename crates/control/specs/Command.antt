@@ -1,11 +1,12 @@
--- What each command says: document 01's number for it, the numbers in its fields, and the bytes behind the fields.
+-- What each command holds: document 01's number for it, the numbers in its fields, and the bytes of each part behind the fields.
 use Prim.Native.Nat.{ℕ, _+_, _*_}
 use mathlib.Core.Bool.{_&&_}
 use mathlib.Core.List.{List, [], _∷_}
-use lib.Dec.{ltb}
+use lib.Dec.{eqb, ltb}
 use Rattle.wire.specs.Choice.{pick}
 use Rattle.wire.specs.Parts.{part}
-use Rattle.wire.specs.Fields.{partsOf}
+use Rattle.wire.specs.Content.{Content, content}
+use Rattle.wire.specs.Fields.{eachPart, partsOf}
 use Rattle.wire.specs.declared.Part.{Part}
 use Rattle.control.specs.declared.Command.{Command}
 use Rattle.control.specs.declared.Command.the-variants.{Setup, FactoryReset, GetState, SetState, BootloaderVersion, UicrData, IbeaconConfig, Reset, GotoDfu, NoOperation, Disconnect, Switch, MultiSwitch}
@@ -57,10 +58,14 @@ commandParts Disconnect = []
 commandParts (Switch v) = []
 commandParts (MultiSwitch f) = f .pairs ∷ []
 
--- the bytes that they name in a payload, or in what a writer is lent
+-- a command's content, its parts naming bytes of a payload, or of what a writer is lent
+abbrev pub commandContent : Command → List ℕ → Content
+commandContent c s = content (commandNumber c) (commandValues c) (eachPart s (commandParts c))
+
+-- the parts' bytes, one behind the other
 abbrev pub commandBytes : Command → List ℕ → List ℕ
 commandBytes c s = partsOf s (commandParts c)
 
--- setup's six keys of 16 bytes: the one with an index from 0 to 5, where they lie in a payload
+-- setup's six keys of 16 bytes: the one with an index from 0 to 5, where they are 96 bytes of a payload
 abbrev pub keyPart : Part → ℕ → Part
-keyPart keys i = pick (ltb i 6 && ltb (keys .start) 65536) (part (keys .start + 16 * i) 16) (part 0 0)
+keyPart keys i = pick (eqb (keys .len) 96 && (ltb i 6 && ltb (keys .start) 65536)) (part (keys .start + 16 * i) 16) (part 0 0)

@@ -1,14 +1,17 @@
 -- What reading a control packet gives: protocol (must be 5), command type (2), size (2), payload.
 use Prim.Native.Nat.{ℕ, _+_}
+use mathlib.Core.Path.{_≡_}
 use mathlib.Core.Bool.{not}
 use mathlib.Core.List.{List, [], _∷_, _++_}
 use lib.ListN.{length, getD, drop}
 use lib.Dec.{eqb}
 use Rattle.wire.specs.Numbers.{num}
 use Rattle.wire.specs.Rules.{Rule, _when_, judge}
-use Rattle.wire.specs.Fields.{Layout, valuesAt, wrongSize, wrongFields}
+use Rattle.wire.specs.Content.{Judged, accepted, refused, Content}
+use Rattle.wire.specs.Fields.{Layout, valuesAt, wrongSize, wrongFields, contentBy}
 use Rattle.access.specs.declared.Mode.{Mode}
 use Rattle.access.specs.declared.Access.{Access}
+use Rattle.control.specs.Command.{commandContent}
 use Rattle.control.specs.Table.{Row, none, rowOf, inMode, hasMark}
 use Rattle.control.specs.declared.marks.Marks.{Marks}
 use Rattle.control.specs.declared.Command.{Command}
@@ -51,7 +54,23 @@ commandAt p = commandOf (rowOf (num 2 1 p)) (drop 5 p)
 abbrev pub readControl : List ℕ → Mode → Access → ControlRead
 readControl p m a = judge Refused (controlRules p m a) (Accepted (commandAt p))
 
--- without 18
+-- what the table reads from a packet
+abbrev pub controlContent : List ℕ → Content
+controlContent p = contentBy (num 2 1 p) (rowOf (num 2 1 p) .payload) (drop 5 p)
+
+-- what an answer gives of the packet: accepted with a content, or refused with a number
+abbrev pub controlAnswer : ControlRead → List ℕ → Judged Content ℕ
+controlAnswer (Accepted c) p = accepted (commandContent c (drop 5 p))
+controlAnswer (Refused n) p = refused n
+
+-- the reader's promise
+pub record ReadsControl (p : List ℕ) (m : Mode) (a : Access) (r : ControlRead) : Type 0 where
+  pub content : controlAnswer r p ≡ judge refused (controlRules p m a) (accepted (controlContent p))
+  -- the answer by the cases of the enum
+  pub answer : r ≡ readControl p m a
+
+-- ---- what the reader's own functions give
+-- a packet's protocol, command type and payload, whatever its size field
 abbrev pub readCommand : List ℕ → Mode → Access → ControlRead
 readCommand p m a = judge Refused (commandRules p m a) (Accepted (commandAt p))
 

@@ -1,3 +1,4 @@
 pub mod Command
 pub mod Table
 pub mod Control
+pub mod Accepts

@@ -5,11 +5,11 @@ use mathlib.Core.List.{List, [], _∷_}
 use lib.ListN.{getD}
 use Rattle.wire.specs.Lookup.{lookup}
 use Rattle.wire.specs.Parts.{part}
-use Rattle.wire.specs.Fields.{Field, Layout, layout, exactly, atLeast, pairs, any, upTo, is, free, seconds}
+use Rattle.wire.specs.Fields.{Field, Layout, layout, exactly, atLeast, pairs, any, upTo, is, nothing, free, cutAt, seconds}
 use Rattle.access.specs.declared.Mode.{Mode}
 use Rattle.access.specs.declared.Mode.the-variants.{Normal, Setup as SetupMode}
 use Rattle.access.specs.declared.Access.{Access}
-use Rattle.access.specs.declared.Access.the-variants.{Plain, Keyed}
+use Rattle.access.specs.declared.Access.the-variants.{Plain, Keyed, Unknown}
 use Rattle.access.specs.declared.Level.the-variants.{Admin, Member, Basic, Setup as SetupLevel}
 use Rattle.control.specs.declared.marks.Marks.{Marks}
 use Rattle.control.specs.declared.Command.{Command}
@@ -36,13 +36,14 @@ abbrev pub inMode : Mode → Marks → Bool
 inMode Normal k = k .admin || (k .member || k .basic)
 inMode SetupMode k = k .setup
 
--- an encrypted packet's level has its mark; a plain one needs none
+-- an encrypted packet's level has its mark; a plain one needs none; there is none for a number that no level has
 abbrev pub hasMark : Access → Marks → Bool
 hasMark Plain k = true
 hasMark (Keyed Admin) k = k .admin
 hasMark (Keyed Member) k = k .member
 hasMark (Keyed Basic) k = k .basic
 hasMark (Keyed SetupLevel) k = k .setup
+hasMark Unknown k = false
 
 -- ---- rows
 pub record Row : Type 0 where
@@ -58,7 +59,7 @@ row n k l f = record { listed = true; number = n; marked = k; payload = l; make 
 
 -- no payload
 abbrev pub none : Layout
-none = layout (exactly 0) [] free
+none = layout (exactly 0) [] nothing
 
 -- get state's and set state's type, id and mode up to a limit, and the reserved 0
 abbrev pub state : ℕ → List Field
@@ -66,22 +67,22 @@ state most = any 2 ∷ any 2 ∷ upTo 1 most ∷ is 1 0 ∷ []
 
 abbrev pub table : List Row
 table =
-    row 0 S (layout (atLeast 98) (any 1 ∷ any 1 ∷ []) free)
+    row 0 S (layout (atLeast 98) (any 1 ∷ any 1 ∷ []) (cutAt 96))
     (λ v n. Setup (record { stone = getD v 0 0; sphere = getD v 1 0; keys = part 2 96; rest = part 98 (n - 98) }))
-    ∷ row 1 A (layout (exactly 4) (is 4 0xDEADBEEF ∷ []) free) (λ v n. FactoryReset)
-    ∷ row 2 AMB (layout (exactly 6) (state 2) free)
+    ∷ row 1 A (layout (exactly 4) (is 4 0xDEADBEEF ∷ []) nothing) (λ v n. FactoryReset)
+    ∷ row 2 AMB (layout (exactly 6) (state 2) nothing)
     (λ v n. GetState (record { kind = getD v 0 0; id = getD v 1 0; mode = getD v 2 0 }))
     ∷ row 3 AMB (layout (atLeast 6) (state 1) free)
     (λ v n. SetState (record { kind = getD v 0 0; id = getD v 1 0; mode = getD v 2 0; value = part 6 (n - 6) }))
     ∷ row 4 AMBS none (λ v n. BootloaderVersion)
     ∷ row 5 AMBS none (λ v n. UicrData)
-    ∷ row 6 A (layout (exactly 7) (upTo 1 1 ∷ any 4 ∷ any 2 ∷ []) free)
+    ∷ row 6 A (layout (exactly 7) (upTo 1 1 ∷ any 4 ∷ any 2 ∷ []) nothing)
     (λ v n. IbeaconConfig (record { id = getD v 0 0; timestamp = getD v 1 0; interval = getD v 2 0 }))
     ∷ row 10 A none (λ v n. Reset)
     ∷ row 11 A none (λ v n. GotoDfu)
     ∷ row 12 AMB none (λ v n. NoOperation)
     ∷ row 13 AMB none (λ v n. Disconnect)
-    ∷ row 20 AMBS (layout (exactly 1) (upTo 1 100 ∷ []) free) (λ v n. Switch (getD v 0 0))
+    ∷ row 20 AMBS (layout (exactly 1) (upTo 1 100 ∷ []) nothing) (λ v n. Switch (getD v 0 0))
     ∷ row 21 AMB (layout pairs (any 1 ∷ []) (seconds 100))
     (λ v n. MultiSwitch (record { count = getD v 0 0; pairs = part 1 (n - 1) }))
     ∷ []

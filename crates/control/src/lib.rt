@@ -1,5 +1,5 @@
 // Control packets: the commands, and their reader.
-pub mod marks;
+mod marks;
 mod payloads;
 
 use crate::marks::A;
@@ -14,7 +14,7 @@ ghost use mathlib.Core.Path.{_≡_};
 ghost use lib.ListN.{drop};
 ghost use Rattle.control.specs.Command.{keyPart};
 ghost use Rattle.control.specs.Table.{rowOf};
-ghost use Rattle.control.specs.Control.{readControl, readCommand, readRow};
+ghost use Rattle.control.specs.Control.{ReadsControl, readCommand, readRow};
 
 // A part in a command counts from the start of the command's payload.
 pub enum Command {
@@ -72,11 +72,14 @@ pub enum ControlRead {
     Refused(u8),
 }
 
-// The part of the key with an index from 0 to 5; an empty one for any other, or for keys that lie in no payload.
+// The part of the key with an index from 0 to 5; an empty one for any other, and where the keys are not 96 bytes of a payload.
 pub fn key_part(keys: Part, index: usize) -> Part
     ensures { λ r. ⌜ r ≡ keyPart keys index ⌝ }
 {
     let start = keys.start;
+    if keys.len != 96 {
+        return Part { start: 0, len: 0 };
+    }
     if 5 < index {
         return Part { start: 0, len: 0 };
     }
@@ -91,7 +94,7 @@ pub fn key_part(keys: Part, index: usize) -> Part
 
 // A control packet that came in a mode, plain or with a level's key: 18 to 24, or the command.
 pub fn read_control(packet: &[u8], mode: Mode, access: Access) -> ControlRead
-    ensures { λ r. ⌜ r ≡ readControl (now (packet .entry)) mode access ⌝ }
+    ensures { λ r. ⌜ ReadsControl (now (packet .entry)) mode access r ⌝ }
 {
     if packet.len() < 5 {
         return ControlRead::Refused(18);
@@ -102,8 +105,8 @@ pub fn read_control(packet: &[u8], mode: Mode, access: Access) -> ControlRead
     read_command(packet, mode, access)
 }
 
-// The same without 18, for a packet whose length was judged already.
-pub fn read_command(packet: &[u8], mode: Mode, access: Access) -> ControlRead
+// Protocol, command type and payload of a packet, whatever its size field: 19 to 24, or the command.
+fn read_command(packet: &[u8], mode: Mode, access: Access) -> ControlRead
     ensures { λ r. ⌜ r ≡ readCommand (now (packet .entry)) mode access ⌝ }
 {
     if wire::byte_at(packet, 0) != 5 {

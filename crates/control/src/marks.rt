@@ -62,7 +62,7 @@ pub fn in_mode(marks: Marks, mode: Mode) -> bool
     }
 }
 
-// Whether an encrypted packet's level has its mark; a plain one needs none.
+// Whether an encrypted packet's level has its mark; a plain one needs none, and there is none for a number that no level has.
 pub fn has_mark(marks: Marks, access: Access) -> bool
     ensures { λ r. ⌜ r ≡ hasMark access marks ⌝ }
 {
@@ -74,6 +74,7 @@ pub fn has_mark(marks: Marks, access: Access) -> bool
             Level::Basic => marks.basic,
             Level::Setup => marks.setup,
         },
+        Access::Unknown => false,
     }
 }
 

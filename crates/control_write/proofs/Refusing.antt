@@ -16,16 +16,16 @@ use Rattle.wire.proofs.Fields.{unreadable-past, unreadable-fields, unreadable-s
 use Rattle.wire.proofs.Writers.{writes-bad, writes-good}
 use Rattle.control.specs.Command.{commandValues, commandParts}
 use Rattle.control.specs.declared.Command.{Command}
-use Rattle.control_write.specs.Image.{packet, rowFor, payloadOf, reread, commandBad, badWithin}
+use Rattle.control_write.specs.Image.{packetImage, rowFor, payloadImage, reread, commandBad, badWithin}
 
 module _ (limit : ℕ) (c : Command) (s : List ℕ) where
   pub bad-past : anyPast s (commandParts c) ≡ true → badWithin limit c s ≡ true
   bad-past e = rw (unreadable-past (rowFor c .payload) (commandValues c) (commandParts c) (commandParts (reread c s)) s e)
 
-  pub bad-size : wrongSize (rowFor c .payload .size) (payloadOf c s) ≡ true → badWithin limit c s ≡ true
+  pub bad-size : wrongSize (rowFor c .payload .size) (payloadImage c s) ≡ true → badWithin limit c s ≡ true
   bad-size e = rw (unreadable-size (rowFor c .payload) (commandValues c) (commandParts c) (commandParts (reread c s)) s e)
 
-  pub bad-fields : wrongFields (rowFor c .payload) (payloadOf c s) ≡ true → badWithin limit c s ≡ true
+  pub bad-fields : wrongFields (rowFor c .payload) (payloadImage c s) ≡ true → badWithin limit c s ≡ true
   bad-fields e = rw (unreadable-fields (rowFor c .payload) (commandValues c) (commandParts c) (commandParts (reread c s)) s e)
 
   pub bad-cut : sameLengths (commandParts c) (commandParts (reread c s)) ≡ false → badWithin limit c s ≡ true
@@ -33,9 +33,9 @@ module _ (limit : ℕ) (c : Command) (s : List ℕ) where
 
   -- nothing but its length is left to judge
   pub long-only : anyPast s (commandParts c) ≡ false → unfit (rowFor c .payload .fields) (commandValues c) ≡ false
-      → wrongSize (rowFor c .payload .size) (payloadOf c s) ≡ false → wrongFields (rowFor c .payload) (payloadOf c s) ≡ false
+      → wrongSize (rowFor c .payload .size) (payloadImage c s) ≡ false → wrongFields (rowFor c .payload) (payloadImage c s) ≡ false
       → sameLengths (commandParts c) (commandParts (reread c s)) ≡ true
-      → badWithin limit c s ≡ ltb 65535 (length (payloadOf c s)) || ltb limit (length (payloadOf c s))
+      → badWithin limit c s ≡ ltb 65535 (length (payloadImage c s)) || ltb limit (length (payloadImage c s))
   long-only e1 e2 e3 e4 e5 =
       rw (not-unreadable (rowFor c .payload) (commandValues c) (commandParts c) (commandParts (reread c s)) s e1 e2 e3 e4 e5)
 
@@ -47,7 +47,7 @@ or-twice false false = refl
 -- a limit that is the size field's own
 pub within-all : (c : Command) (s : List ℕ) → commandBad c s ≡ badWithin 65535 c s
 within-all c s =
-    or-twice (unreadable (rowFor c .payload) (commandValues c) (commandParts c) (commandParts (reread c s)) s) (ltb 65535 (length (payloadOf c s)))
+    or-twice (unreadable (rowFor c .payload) (commandValues c) (commandParts c) (commandParts (reread c s)) s) (ltb 65535 (length (payloadImage c s)))
 
 -- ---- a packet of fields and two slices
 module _ (limit n : ℕ) (front fields a b room : List ℕ) where
@@ -55,18 +55,18 @@ module _ (limit n : ℕ) (front fields a b room : List ℕ) where
   body-length = omega (arith, length-append fields (a ++ b), length-append a b)
 
   pub packet-over : 65535 < length fields + length a + length b
-      → Writes (ltb 65535 (length (fields ++ (a ++ b))) || ltb limit (length (fields ++ (a ++ b)))) (front ++ packet n (fields ++ (a ++ b))) room (Refused 17) room
+      → Writes (ltb 65535 (length (fields ++ (a ++ b))) || ltb limit (length (fields ++ (a ++ b)))) (front ++ packetImage n (fields ++ (a ++ b))) room (Refused 17) room
   packet-over h = writes-bad (rw (lt-ltb 65535 (length (fields ++ (a ++ b))) (omega (arith, body-length))))
 
   pub packet-limit : length fields + length a + length b ≤ 65535 → limit < length fields + length a + length b
-      → Writes (ltb 65535 (length (fields ++ (a ++ b))) || ltb limit (length (fields ++ (a ++ b)))) (front ++ packet n (fields ++ (a ++ b))) room (Refused 17) room
+      → Writes (ltb 65535 (length (fields ++ (a ++ b))) || ltb limit (length (fields ++ (a ++ b)))) (front ++ packetImage n (fields ++ (a ++ b))) room (Refused 17) room
   packet-limit h k =
       writes-bad (rw (le-ltb 65535 (length (fields ++ (a ++ b))) (omega (arith, body-length)), lt-ltb limit (length (fields ++ (a ++ b))) (omega (arith, body-length))))
 
   pub packet-made : (size : ℕ) {answer : Written} {after : List ℕ} → size ≡ length fields + length a + length b → size ≤ 65535 → size ≤ limit
       → Stores (noRoom 0 (front ++ (le 1 5 ++ (le 2 n ++ (le 2 size ++ (fields ++ (a ++ b)))))) room ∷ []) 0
       (front ++ (le 1 5 ++ (le 2 n ++ (le 2 size ++ (fields ++ (a ++ b)))))) room answer after
-      → Writes (ltb 65535 (length (fields ++ (a ++ b))) || ltb limit (length (fields ++ (a ++ b)))) (front ++ packet n (fields ++ (a ++ b))) room answer after
+      → Writes (ltb 65535 (length (fields ++ (a ++ b))) || ltb limit (length (fields ++ (a ++ b)))) (front ++ packetImage n (fields ++ (a ++ b))) room answer after
   packet-made size e h k w =
       let l : size ≡ length (fields ++ (a ++ b)) = omega (arith, body-length) in
       writes-good

@@ -13,7 +13,7 @@ pub fn write_control(c: Command, bytes: &[u8], out: &mut [u8]) -> Written
     write_behind(&bytes[0..0], 65535, c, bytes, out)
 }
 
-// The same behind other bytes, with a payload up to a limit.
+// A command's packet behind the bytes of `front`, its payload at most `limit` bytes. Its parts name bytes of `bytes`.
 pub fn write_behind(front: &[u8], limit: usize, c: Command, bytes: &[u8], out: &mut [u8]) -> Written
     ensures { λ r. ⌜ WritesBehind (now (front .entry)) limit c (now (bytes .entry)) (now (out .entry)) r (now (out .exit)) ⌝ }
 {

@@ -13,9 +13,9 @@ ghost use lib.ListN.{length};
 ghost use Rattle.wire.specs.Numbers.{le};
 ghost use Rattle.wire.specs.Writing.{Writes};
 ghost use Rattle.control.specs.declared.Command.the-variants.{Setup, FactoryReset, GetState, SetState, IbeaconConfig, Switch, MultiSwitch};
-ghost use Rattle.control_write.specs.Image.{packet, WritesBehind};
+ghost use Rattle.control_write.specs.Image.{packetImage, WritesBehind};
 
-// A packet behind other bytes: its payload is fields and two slices, and at most a limit long.
+// A packet behind the bytes of `front`, its payload `fields`, `a` and `b`: 17 for one longer than the size field counts, or than `limit`.
 pub fn packet(
     front: &[u8],
     limit: usize,
@@ -26,7 +26,7 @@ pub fn packet(
     out: &mut [u8],
 ) -> Written
     ensures { λ r. ⌜ Writes (ltb 65535 (length (now (fields .entry) ++ (now (a .entry) ++ now (b .entry)))) || ltb limit (length (now (fields .entry) ++ (now (a .entry) ++ now (b .entry)))))
-        (now (front .entry) ++ packet number (now (fields .entry) ++ (now (a .entry) ++ now (b .entry)))) (now (out .entry)) r (now (out .exit)) ⌝ }
+        (now (front .entry) ++ packetImage number (now (fields .entry) ++ (now (a .entry) ++ now (b .entry)))) (now (out .entry)) r (now (out .exit)) ⌝ }
 {
     if 65535 < fields.len() {
         return Written::Refused(17);
@@ -41,13 +41,9 @@ pub fn packet(
     if limit < size {
         return Written::Refused(17);
     }
-    let head = [
-        5,
-        (number % 256) as u8,
-        (number / 256) as u8,
-        (size % 256) as u8,
-        (size / 256) as u8,
-    ];
+    let n = wire::u16_bytes(number);
+    let z = wire::u16_bytes(size as u16);
+    let head = [5, n[0], n[1], z[0], z[1]];
     wire::layouts::write5(front, &head, fields, a, b, out)
 }
 
@@ -89,14 +85,9 @@ pub fn factory_reset(front: &[u8], limit: usize, bytes: &[u8], out: &mut [u8]) -
 fn state_fields(kind: u16, id: u16, mode: u8) -> [u8; 6]
     ensures { λ r. ⌜ r ≡ le 2 kind ++ (le 2 id ++ (mode ∷ 0 ∷ [])) ⌝ }
 {
-    [
-        (kind % 256) as u8,
-        (kind / 256) as u8,
-        (id % 256) as u8,
-        (id / 256) as u8,
-        mode,
-        0,
-    ]
+    let k = wire::u16_bytes(kind);
+    let i = wire::u16_bytes(id);
+    [k[0], k[1], i[0], i[1], mode, 0]
 }
 
 pub fn get_state(
@@ -157,15 +148,9 @@ pub fn ibeacon_config(
         return Written::Refused(17);
     }
     let none = &bytes[0..0];
-    let fields = [
-        f.id,
-        (f.timestamp % 256) as u8,
-        (f.timestamp / 256 % 256) as u8,
-        (f.timestamp / 256 / 256 % 256) as u8,
-        (f.timestamp / 256 / 256 / 256) as u8,
-        (f.interval % 256) as u8,
-        (f.interval / 256) as u8,
-    ];
+    let t = wire::u32_bytes(f.timestamp);
+    let i = wire::u16_bytes(f.interval);
+    let fields = [f.id, t[0], t[1], t[2], t[3], i[0], i[1]];
     packet(front, limit, 6, &fields, none, none, out)
 }
 
@@ -206,7 +191,7 @@ pub fn multi_switch(
 
 // A command that has no payload.
 pub fn none(front: &[u8], limit: usize, number: u16, bytes: &[u8], out: &mut [u8]) -> Written
-    ensures { λ r. ⌜ Writes (ltb limit 0) (now (front .entry) ++ packet number []) (now (out .entry)) r (now (out .exit)) ⌝ }
+    ensures { λ r. ⌜ Writes (ltb limit 0) (now (front .entry) ++ packetImage number []) (now (out .entry)) r (now (out .exit)) ⌝ }
 {
     let empty = &bytes[0..0];
     packet(front, limit, number, empty, empty, empty, out)

@@ -1,13 +1,15 @@
-// A list of messages, plain and sealed, end to end: sealed, framed, with noise strewn between, received byte by byte by a receiver that is
-// caught inside an unfinished frame, and opened in order, each with the session that the last one left.
-mod say;
+// A list of messages, plain and sealed, end to end: sealed, framed, with noise between, received byte by byte by a receiver that is
+// caught inside an unfinished frame, and opened in order, each with the session that the last one left. Then packets of a phone, sealed and
+// opened at each level.
+mod phone;
+mod print;
 mod sending;
 
 use crate::sending::Line;
 use access::Mode;
 use bridge::Answer;
+use bridge::Context;
 use bridge::Place;
-use bridge::Setting;
 use line::Event;
 use line::Progress;
 use line::Receiver;
@@ -23,7 +25,8 @@ fn main() {
     let c = sending::broken_list(&mut line, b);
     let n = sending::long_list(&mut line, c);
     receive_front(&line, n);
-    say::text(b"end\n");
+    phone::packets();
+    print::text(b"end\n");
 }
 
 // A receiver inside a frame of size 40 of which five bytes have come, its store full of other bytes.
@@ -53,14 +56,14 @@ fn receive(start: Receiver, line: &[u8]) {
         let next = s.receiver;
         receiver = next;
         let event = s.event;
-        let after = hear(event, receiver, session);
+        let after = handle(event, receiver, session);
         session = after;
         i += 1;
     }
 }
 
-// What an event says, and the session after it.
-fn hear(event: Event, receiver: Receiver, session: Session) -> Session {
+// Opens a frame or writes a refusal; the session after it.
+fn handle(event: Event, receiver: Receiver, session: Session) -> Session {
     match event {
         Event::Nothing => session,
         Event::Frame {
@@ -79,8 +82,8 @@ fn hear(event: Event, receiver: Receiver, session: Session) -> Session {
             )
         }
         Event::Refused(n) => {
-            say::number(b"receiver refused ", n as u64);
-            say::text(b"\n");
+            print::number(b"receiver refused ", n as u64);
+            print::text(b"\n");
             session
         }
     }
@@ -89,14 +92,14 @@ fn hear(event: Event, receiver: Receiver, session: Session) -> Session {
 // The work buffer holds other bytes at each opening.
 fn open(major: u8, minor: u8, wrapper: u8, payload: &[u8], session: Session) -> Session {
     let mut work = [0xEEu8; 496];
-    let setting = Setting {
+    let context = Context {
         session,
         time: Seconds(1000),
         keys: sending::keys(),
         mode: Mode::Normal,
         required: false,
     };
-    let opened = bridge::uart::open(major, minor, wrapper, payload, setting, &mut work);
+    let opened = bridge::uart::open(major, minor, wrapper, payload, context, &mut work);
     let answer = opened.answer;
     show(answer, payload, &work);
     let after = opened.session;
@@ -107,20 +110,20 @@ fn show<'a>(answer: Answer, payload: &'a [u8], work: &'a [u8]) {
     match answer {
         Answer::Accepted(m, place) => accepted(m, place, payload, work),
         Answer::Refused(r) => {
-            say::number(b"refused ", r.number as u64);
+            print::number(b"refused ", r.number as u64);
             let reply = r.reply;
-            say::reply(reply);
+            print::reply(reply);
         }
     }
-    say::text(b"\n");
+    print::text(b"\n");
 }
 
 fn accepted<'a>(m: Message, place: Place, payload: &'a [u8], work: &'a [u8]) {
-    say::message(m);
+    print::message(m);
     if place.in_work {
-        say::text(b"; deciphered");
+        print::text(b"; deciphered");
     } else {
-        say::text(b"; plain");
+        print::text(b"; plain");
     }
-    say::bytes(bridge::payload(payload, work, place));
+    print::bytes(bridge::payload(payload, work, place));
 }

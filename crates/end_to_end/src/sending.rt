@@ -1,5 +1,5 @@
 // The line: frames of plain and sealed messages, noise and broken frames, one behind the other.
-use crate::say;
+use crate::print;
 use access::Mode;
 use session::Key;
 use session::Keys;
@@ -47,9 +47,9 @@ fn put(bytes: &[u8], line: &mut Line, at: usize) -> usize {
 }
 
 fn refused(by: &[u8], n: u8) {
-    say::text(by);
-    say::number(b" refused ", n as u64);
-    say::text(b"\n");
+    print::text(by);
+    print::number(b" refused ", n as u64);
+    print::text(b"\n");
 }
 
 fn framed(wrapper: u8, payload: &[u8], line: &mut Line, at: usize) -> usize {

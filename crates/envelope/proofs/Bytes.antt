@@ -1,13 +1,13 @@
--- Laws on bytes for the functions that open: zeros, a front compared, a stretch, a buffer cleared. Assumes nothing.
+-- Laws on bytes for the functions that open: zeros, a front compared, a buffer cleared. Assumes nothing.
 use mathlib.Core.Path.{_≡_, refl, sym, ap, _∙_}
 use mathlib.Core.Bool.{Bool, true, false, _&&_}
 use mathlib.Core.List.{List, [], _∷_, _++_}
-use Prim.Native.Nat.{ℕ, zero, suc, _+_, _-_, _≤_, _<_, min}
+use Prim.Native.Nat.{ℕ, zero, suc, _+_, _≤_, _<_, min}
 use native.Mathlib.Nat.{not-suc-le-zero, le-of-suc-le-suc}
 use native.Mathlib.Numerals.{add-one}
 use native.Mathlib.Omega.{arith}
-use lib.ListN.{length, getD, take, drop, replicate, length-take, length-drop, drop-of-length-le}
-use lib.Seq.{drop-cons, take-suc, take-all, take-nil}
+use lib.ListN.{length, getD, take, drop, replicate, length-take, drop-of-length-le}
+use lib.Seq.{drop-cons, take-suc, take-all}
 use lib.Dec.{eqb}
 use borrow.Author.Tests.{eq-eqb}
 use Rattle.envelope.specs.Blocks.{allZero, cleared}
@@ -58,16 +58,6 @@ module _ (s t : List ℕ) (l : length t ≡ 4) where
       → eqb (getD s 3 0) (getD t 3 0) ≡ sameBytes (take 4 s) t
   front-last h e0 e1 e2 =
       sym (front-same h ∙ rw (eq-eqb _ _ e0, eq-eqb _ _ e1, eq-eqb _ _ e2) (and-true (eqb (getD s 3 0) (getD t 3 0))))
-
--- ---- a stretch of bytes
-module _ (s : List ℕ) (at len : ℕ) where
-  pub stretch-none : length s < at → [] ≡ take len (drop at s)
-  stretch-none h = sym (ap (take len) (drop-of-length-le s {i = at} (omega arith)) ∙ take-nil len)
-
-  pub stretch-rest : length s - at < len → at ≤ length s → take (length s - at) (drop at s) ≡ take len (drop at s)
-  stretch-rest h k =
-      take-all (length s - at) (drop at s) (omega (arith, length-drop at s))
-      ∙ sym (take-all len (drop at s) (omega (arith, length-drop at s)))
 
 -- ---- a buffer cleared
 drop-same : (s : List ℕ) (n i : ℕ) → i ≡ min n (length s) → drop i s ≡ drop n s

@@ -1,14 +1,12 @@
 -- Lengths of padded bytes and of envelopes, and the blocks of an envelope deciphered: opening undoes sealing, for every key, nonce and text. Assumes nothing.
 use mathlib.Core.Path.{_≡_, sym, ap, _∙_}
-use mathlib.Core.Bool.{false, not, _||_}
+use mathlib.Core.Bool.{false}
 use mathlib.Core.List.{List, [], _∷_, _++_}
 use Prim.Native.Nat.{ℕ, _+_, _-_, _*_, _≤_, _<_}
 use native.Mathlib.Omega.{arith}
 use lib.ListN.{length, getD, take, drop, replicate, length-append, length-replicate, length-drop}
 use lib.Seq.{take-at, drop-at, getD-at, drop-drop}
-use lib.Dec.{eqb, ltb}
-use borrow.Author.Tests.{le-ltb, eq-eqb, ltb-false, eqb-true, not-false}
-use Rattle.wire.proofs.Choice.{or-fails}
+use borrow.Author.Tests.{le-ltb, eq-eqb}
 use Rattle.wire.proofs.Lists.{nil-of}
 use Rattle.wire.proofs.Fields.{to-end}
 use Rattle.aes.specs.Ctr.{blocksFor, ctrOf}
@@ -71,20 +69,6 @@ module _ (key pn sn : List ℕ) (id : ℕ) (s : List ℕ) (three-bytes : length 
       let b : ℕ = blocksFor (length s) in
       let l : length (enveloped key pn sn id (padded s)) ≡ 4 + 16 * b = omega (arith, length-enveloped key pn sn id (padded s) three-bytes, length-padded s) in
       rw (blocks-padded, le-ltb b 1 (omega arith), le-ltb 31 b (omega arith), eq-eqb _ _ l)
-
--- what a right length is
-pub record Whole (payload : List ℕ) : Type 0 where
-  pub some : 1 ≤ blocksIn payload
-  pub most : blocksIn payload ≤ 31
-  pub size : length payload ≡ 4 + 16 * blocksIn payload
-
-pub whole : (payload : List ℕ) → wrongLength payload ≡ false → Whole payload
-unfolding wrongLength
-whole payload e =
-    let n : ℕ = blocksIn payload in
-    let f = or-fails (ltb n 1 || ltb 31 n) (not (eqb (length payload) (4 + 16 * n))) e in
-    let g = or-fails (ltb n 1) (ltb 31 n) (f .0) in
-    record { some = ltb-false n 1 (g .0); most = ltb-false 31 n (g .1); size = eqb-true _ _ (not-false _ (f .1)) }
 
 -- ---- the blocks deciphered
 module _ (key sn payload : List ℕ) where

@@ -1,5 +1,5 @@
 pub mod Bytes
 pub mod Envelopes
+pub mod Misfit
 pub mod Sealers
 pub mod Unsealed
-pub mod Work

@@ -52,7 +52,7 @@ zeros-behind h b {t} n k et eu =
     ∙ rw (e, take-at h z (length h) refl, drop-append-add h z (length b), drop-zeros (length b) (n - length h) (n - (length h + length b)) (omega arith))
     (sym (append-assoc h b (replicate (n - (length h + length b)) 0)))
 
--- as many of them as the blocks hold
+-- as many bytes of a text and its zeros as the blocks hold
 padded-front : (s : List ℕ) (l room n : ℕ) → length s ≡ l → n ≡ 16 * blocksFor l → n ≤ room → take n (s ++ replicate (room - l) 0) ≡ padded s
 padded-front s l room n el e h =
     let k : ℕ = 16 * blocksFor (length s) - length s in
@@ -111,7 +111,7 @@ module _ (image room : List ℕ) (held : Bool) where
       → Stores (noRoom 0 image room ∷ (10 when not held) ∷ []) 0 image room (Wrote n) after
   made h e l a =
       let k = le-ltb (length room) (0 + length image) (omega arith) in
-      record { answers = rw (k, e, l); leaves = rw (k, e, a) }
+      record { number = rw (k, e, l); answers = rw (k, e, l); leaves = rw (k, e, a) }
 
 -- what is left where the size is within the limits
 abbrev pub Ends : Key → List ℕ → List ℕ → Written → List ℕ → Type 0
@@ -135,10 +135,3 @@ within least most n e k =
 
 pub wrong-size : (key : Key) (bad : Bool) (image room : List ℕ) → bad ≡ true → Seals key bad image room (Refused 17) room
 wrong-size key bad image room e = stores-refused 0 image room (sealerRules key bad image room) 16 (rw e)
-
--- a sealer that refuses nothing
-pub sealed : (key : Key) {bad : Bool} {image room : List ℕ} {answer : Written} {after : List ℕ} → Seals key bad image room answer after
-    → bad ≡ false → length image ≤ length room → key .held ≡ true → (answer ≡ Wrote (length image)) × (after ≡ image ++ drop (length image) room)
-sealed key {bad} {image} {room} w b h k =
-    let f = le-ltb (length room) (0 + length image) (omega arith) in
-    (w .answers ∙ rw (b, f, k), w .leaves ∙ rw (b, f, k, zero-add (length image)))

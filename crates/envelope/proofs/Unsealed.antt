@@ -1,31 +1,40 @@
 -- Unsealing undoes sealing, and equal images come of equal packet nonces and messages. No byte needs a bound. Assumes nothing.
-use mathlib.Core.Path.{_≡_, refl, sym, ap, _∙_}
-use mathlib.Core.Bool.{true, false, not}
+use mathlib.Core.Path.{_≡_, refl, sym, ap, ap₂, _∙_}
+use mathlib.Core.Bool.{true, false}
 use mathlib.Core.List.{List, [], _∷_, _++_, append-assoc, append-nil}
 use Prim.Native.Nat.{ℕ, zero, suc, _+_, _-_, _*_, _≤_, _<_}
 use native.Mathlib.Omega.{arith}
-use lib.ListN.{length, getD, take, drop, replicate, length-append, length-drop, List·getD-append}
-use lib.Seq.{take-at, drop-at, getD-append-add, getD-drop, getD-take, length-take-le}
-use lib.Dec.{ltb}
-use borrow.Author.Tests.{le-ltb, eq-eqb, ltb-false, eqb-true, not-false}
-use Rattle.wire.proofs.Choice.{or-fails}
+use lib.ListN.{length, getD, take, drop, replicate, length-append, List·getD-append}
+use lib.Seq.{take-at, drop-at, getD-append-add, getD-drop, getD-take}
+use lib.Dec.{eqb}
+use borrow.Author.Tests.{le-ltb, eq-eqb, eqb-true}
+use Rattle.wire.proofs.Choice.{true-false, and-holds}
 use Rattle.wire.proofs.Held.{held}
 use Rattle.wire.specs.Numbers.{num, le}
 use Rattle.wire.specs.Rules.{firstBroken}
 use Rattle.aes.specs.Ctr.{blocksFor}
 use Rattle.envelope.specs.Blocks.{padded, blocksIn, deciphered, wrongLength, notLeast, allZero}
-use Rattle.envelope.specs.Sealed.{plainText, sealedImage, messageSize, lateRules, messageIn}
+use Rattle.envelope.specs.Sealed.{plainText, sealedImage, messageSize, messageMisfit, lateRules, messageIn}
 use Rattle.envelope.specs.Characteristic.{characteristicText, characteristicImage, sameBytes, packetSize, characteristicRules, packetIn}
 use Rattle.envelope.proofs.Envelopes.{length-padded, length-enveloped, nonce-enveloped, id-enveloped, deciphered-enveloped, same-enveloped, whole-padded}
+use Rattle.envelope.proofs.Misfit.{least-blocks, length-within, size-fits, message-fits, packet-fits}
 
 zeros-zero : (n : ℕ) → allZero (replicate n 0) ≡ true
 unfolding allZero
 zeros-zero zero = refl
 zeros-zero (suc n) = zeros-zero n
 
-same-self : (s : List ℕ) → sameBytes s s ≡ true
+pub same-self : (s : List ℕ) → sameBytes s s ≡ true
 same-self [] = refl
 same-self (a ∷ s) = rw (eq-eqb a a refl) (same-self s)
+
+pub same-bytes : (s t : List ℕ) → sameBytes s t ≡ true → s ≡ t
+same-bytes [] [] e = refl
+same-bytes [] (b ∷ t) e = true-false (sym e)
+same-bytes (a ∷ s) [] e = true-false (sym e)
+same-bytes (a ∷ s) (b ∷ t) e =
+    let h = and-holds (eqb a b) (sameBytes s t) e in
+    ap₂ (λ (x : ℕ) (l : List ℕ). x ∷ l) (eqb-true a b (h .0)) (same-bytes s t (h .1))
 
 -- ---- padded bytes
 module _ (s : List ℕ) (n : ℕ) (l : length s ≡ n) where
@@ -40,8 +49,8 @@ module _ (s : List ℕ) (n : ℕ) (l : length s ≡ n) where
 
 -- ---- the encrypted wrapper payload
 module _ (m : List ℕ) where
-  length-bare : length (le 4 0xCAFEBABE ++ (le 2 (length m) ++ m)) ≡ 6 + length m
-  length-bare = omega arith
+  length-unpadded : length (le 4 0xCAFEBABE ++ (le 2 (length m) ++ m)) ≡ 6 + length m
+  length-unpadded = omega arith
 
   pub length-plain : length (plainText m) ≡ 16 * blocksFor (6 + length m)
   unfolding plainText
@@ -57,25 +66,31 @@ module _ (m : List ℕ) where
 
   least-plain : notLeast (plainText m) (6 + length m) ≡ false
   unfolding plainText
-  least-plain = padded-least (le 4 0xCAFEBABE ++ (le 2 (length m) ++ m)) (6 + length m) length-bare
+  least-plain = padded-least (le 4 0xCAFEBABE ++ (le 2 (length m) ++ m)) (6 + length m) length-unpadded
 
   zero-plain : allZero (drop (6 + length m) (plainText m)) ≡ true
   unfolding plainText
-  zero-plain = padding-zero (le 4 0xCAFEBABE ++ (le 2 (length m) ++ m)) (6 + length m) length-bare
+  zero-plain = padding-zero (le 4 0xCAFEBABE ++ (le 2 (length m) ++ m)) (6 + length m) length-unpadded
+
+  fits-plain : 2 ≤ length m → messageMisfit (plainText m) ≡ false
+  fits-plain h = rw (size-plain, le-ltb (length m) 2 h, least-plain)
 
   -- none of 11, 12 and 13
   pub late-plain : 2 ≤ length m → firstBroken (lateRules (plainText m)) ≡ 0
   unfolding lateRules
-  late-plain h = rw (eq-eqb _ _ validation-plain, size-plain, le-ltb (length m) 2 h, least-plain, zero-plain)
+  late-plain h = rw (eq-eqb _ _ validation-plain, fits-plain h, size-plain, zero-plain)
 
   -- the message, with anything behind the text
   pub message-behind : (rest : List ℕ) → take (length m) (drop 6 (plainText m ++ rest)) ≡ m
   unfolding plainText
   message-behind rest = rw (append-assoc m) (take-at m _ (length m) refl)
 
-  pub message-plain : messageIn (plainText m) ≡ m
-  unfolding messageIn plainText
-  message-plain = ap (λ (n : ℕ). take n (drop 6 (plainText m))) size-plain ∙ take-at m _ (length m) refl
+  message-by-size : take (messageSize (plainText m)) (drop 6 (plainText m)) ≡ m
+  unfolding plainText
+  message-by-size = ap (λ (n : ℕ). take n (drop 6 (plainText m))) size-plain ∙ take-at m _ (length m) refl
+
+  pub message-plain : 2 ≤ length m → messageIn (plainText m) ≡ m
+  message-plain h = message-fits (plainText m) (fits-plain h) ∙ message-by-size
 
 -- where none of 11, 12 and 13 is given, the blocks hold the message
 pub record Holds (text : List ℕ) : Type 0 where
@@ -84,16 +99,15 @@ pub record Holds (text : List ℕ) : Type 0 where
   pub size : length (messageIn text) ≡ messageSize text
 
 pub holds : (text : List ℕ) → firstBroken (lateRules text) ≡ 0 → Holds text
-unfolding lateRules notLeast messageIn
+unfolding lateRules
 holds text e =
     let n : ℕ = messageSize text in
-    let h = held (lateRules text) (tt, (tt, (tt, tt))) e in
-    let o = or-fails (ltb n 2) (notLeast text (6 + n)) (h .1 .0) in
-    let l : length text ≡ 16 * blocksFor (6 + n) = eqb-true _ _ (not-false _ (o .1)) in
+    let fits = held (lateRules text) (tt, (tt, (tt, tt))) e .1 .0 in
+    let s = size-fits text fits in
     record {
-      some = ltb-false n 2 (o .0);
-      least = l;
-      size = length-take-le n (drop 6 text) (omega (arith, length-drop 6 text));
+      some = s .0;
+      least = least-blocks text (6 + n) (s .1);
+      size = ap length (message-fits text fits) ∙ length-within text 6 n (s .1);
     }
 
 module _ (key pn sn m : List ℕ) (three-bytes : length pn ≡ 3) where
@@ -134,26 +148,24 @@ pub same-sealed : (key sn : List ℕ) {pn pn′ m m′ : List ℕ} → length pn
 unfolding sealedImage
 same-sealed key sn {m} {m′} h h′ e =
     let s = same-enveloped key sn h h′ e in
-    (s .0, sym (message-plain m) ∙ ap messageIn (s .2) ∙ message-plain m′)
+    (s .0, sym (message-by-size m) ∙ ap (λ (t : List ℕ). take (messageSize t) (drop 6 t)) (s .2) ∙ message-by-size m′)
 
 -- ---- the characteristic packet
--- 18 asks what the reader of control packets asks
+-- where 18 is not given, the packet has 5 + size bytes, as its reader asks
 pub packet-sized : (text : List ℕ) → notLeast text (4 + packetSize text) ≡ false → length (packetIn text) ≡ 5 + num 2 3 (packetIn text)
-unfolding notLeast packetIn
 packet-sized text e =
     let n : ℕ = packetSize text in
-    let l : length text ≡ 16 * blocksFor (4 + n) = eqb-true _ _ (not-false _ e) in
-    let k : length (take n (drop 4 text)) ≡ n = length-take-le n (drop 4 text) (omega (arith, length-drop 4 text)) in
+    let k = length-within text 4 n e in
     let p : (i : ℕ) → i < n → getD (take n (drop 4 text)) i 0 ≡ getD text (4 + i) 0 = λ i h. getD-take n (drop 4 text) i 0 h ∙ getD-drop 4 text i 0 in
-    omega (arith, k, p 3 (omega arith), p 4 (omega arith))
+    rw (packet-fits text e) (omega (arith, k, p 3 (omega arith), p 4 (omega arith)))
 
 module _ (v p : List ℕ) (four-bytes : length v ≡ 4) where
-  bare-length : length (v ++ p) ≡ 4 + length p
-  bare-length = omega (arith, length-append v p)
+  length-unpadded-packet : length (v ++ p) ≡ 4 + length p
+  length-unpadded-packet = omega (arith, length-append v p)
 
   pub length-text : length (characteristicText v p) ≡ 16 * blocksFor (4 + length p)
   unfolding characteristicText
-  length-text = omega (arith, length-padded (v ++ p), bare-length)
+  length-text = omega (arith, length-padded (v ++ p), length-unpadded-packet)
 
   front-text : take 4 (characteristicText v p) ≡ v
   unfolding characteristicText
@@ -180,11 +192,11 @@ module _ (v p : List ℕ) (four-bytes : length v ≡ 4) where
 
     least-text : notLeast (characteristicText v p) (4 + length p) ≡ false
     unfolding characteristicText
-    least-text = padded-least (v ++ p) (4 + length p) bare-length
+    least-text = padded-least (v ++ p) (4 + length p) length-unpadded-packet
 
     zero-text : allZero (drop (4 + length p) (characteristicText v p)) ≡ true
     unfolding characteristicText
-    zero-text = padding-zero (v ++ p) (4 + length p) bare-length
+    zero-text = padding-zero (v ++ p) (4 + length p) length-unpadded-packet
 
     -- none of 11, 18 and 13
     pub late-text : firstBroken (characteristicRules v (characteristicText v p)) ≡ 0
@@ -192,9 +204,9 @@ module _ (v p : List ℕ) (four-bytes : length v ≡ 4) where
     late-text = rw (front-text, same-self v, size-text, least-text, zero-text)
 
     pub packet-text : packetIn (characteristicText v p) ≡ p
-    unfolding packetIn
     packet-text =
-        ap (λ (n : ℕ). take n (drop 4 (characteristicText v p))) size-text
+        packet-fits (characteristicText v p) (rw size-text least-text)
+        ∙ ap (λ (n : ℕ). take n (drop 4 (characteristicText v p))) size-text
         ∙ ap (λ (l : List ℕ). take (length p) (drop 4 l)) (sym (append-nil (characteristicText v p)))
         ∙ packet-behind []
 

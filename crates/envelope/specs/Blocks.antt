@@ -30,7 +30,7 @@ abbrev pub Seals : Key → Bool → List ℕ → List ℕ → Written → List �
 Seals key bad image room answer after = Stores (sealerRules key bad image room) 0 image room answer after
 
 -- ---- opening
--- n
+-- n: how many blocks a payload holds
 abbrev pub blocksIn : List ℕ → ℕ
 blocksIn payload = (length payload - 4) / 16
 

@@ -4,6 +4,7 @@ use mathlib.Core.Bool.{Bool, true, false, not, _&&_}
 use mathlib.Core.List.{List, [], _∷_, _++_}
 use lib.ListN.{take, drop}
 use lib.Dec.{eqb}
+use Rattle.wire.specs.Choice.{pick}
 use Rattle.wire.specs.Numbers.{num}
 use Rattle.wire.specs.Rules.{Rule, _when_}
 use Rattle.envelope.specs.Blocks.{padded, enveloped, notLeast, allZero}
@@ -13,7 +14,7 @@ use Rattle.envelope.specs.Blocks.{padded, enveloped, notLeast, allZero}
 unfoldable pub characteristicText : List ℕ → List ℕ → List ℕ
 characteristicText validation packet = padded (validation ++ packet)
 
--- user level, by its number
+-- packet nonce, user level, by its number, and the n blocks
 unfoldable pub characteristicImage : List ℕ → List ℕ → List ℕ → ℕ → List ℕ → List ℕ → List ℕ
 characteristicImage key pn sn level validation packet = enveloped key pn sn level (characteristicText validation packet)
 
@@ -28,13 +29,18 @@ sameBytes (a ∷ s) (b ∷ t) = eqb a b && sameBytes s t
 abbrev pub packetSize : List ℕ → ℕ
 packetSize text = 5 + num 2 7 text
 
--- rules of the n blocks deciphered. 18: the packet runs past them, or n is not the least
+-- 18: the packet too short, or n not the least
+abbrev pub packetMisfit : List ℕ → Bool
+packetMisfit text = notLeast text (4 + packetSize text)
+
+-- rules of the n blocks deciphered
 unfoldable pub characteristicRules : List ℕ → List ℕ → List Rule
 characteristicRules validation text =
     (11 when not (sameBytes (take 4 text) validation))
-    ∷ (18 when notLeast text (4 + packetSize text))
+    ∷ (18 when packetMisfit text)
     ∷ (13 when not (allZero (drop (4 + packetSize text) text)))
     ∷ []
 
+-- the control packet, none where 18 applies
 unfoldable pub packetIn : List ℕ → List ℕ
-packetIn text = take (packetSize text) (drop 4 text)
+packetIn text = pick (packetMisfit text) [] (take (packetSize text) (drop 4 text))

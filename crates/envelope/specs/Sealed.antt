@@ -1,9 +1,10 @@
 -- Document 01, 'Cipher and session': the encrypted wrapper payload.
 use Prim.Native.Nat.{ℕ, _+_}
-use mathlib.Core.Bool.{not, _||_}
+use mathlib.Core.Bool.{Bool, not, _||_}
 use mathlib.Core.List.{List, [], _∷_, _++_}
 use lib.ListN.{length, take, drop}
 use lib.Dec.{eqb, ltb}
+use Rattle.wire.specs.Choice.{pick}
 use Rattle.wire.specs.Numbers.{num, le}
 use Rattle.wire.specs.Rules.{Rule, _when_}
 use Rattle.envelope.specs.Blocks.{padded, enveloped, notLeast, allZero}
@@ -13,7 +14,7 @@ use Rattle.envelope.specs.Blocks.{padded, enveloped, notLeast, allZero}
 unfoldable pub plainText : List ℕ → List ℕ
 plainText m = padded (le 4 0xCAFEBABE ++ (le 2 (length m) ++ m))
 
--- key ID 0, meaning admin
+-- packet nonce, key ID 0, meaning admin, and the n blocks
 unfoldable pub sealedImage : List ℕ → List ℕ → List ℕ → List ℕ → List ℕ
 sealedImage key pn sn m = enveloped key pn sn 0 (plainText m)
 
@@ -21,13 +22,18 @@ sealedImage key pn sn m = enveloped key pn sn 0 (plainText m)
 abbrev pub messageSize : List ℕ → ℕ
 messageSize text = num 2 4 text
 
+-- 12: message size below 2, or n not the least
+abbrev pub messageMisfit : List ℕ → Bool
+messageMisfit text = ltb (messageSize text) 2 || notLeast text (6 + messageSize text)
+
 -- rules of the n blocks deciphered
 unfoldable pub lateRules : List ℕ → List Rule
 lateRules text =
     (11 when not (eqb (num 4 0 text) 0xCAFEBABE))
-    ∷ (12 when ltb (messageSize text) 2 || notLeast text (6 + messageSize text))
+    ∷ (12 when messageMisfit text)
     ∷ (13 when not (allZero (drop (6 + messageSize text) text)))
     ∷ []
 
+-- the message, none where 12 applies
 unfoldable pub messageIn : List ℕ → List ℕ
-messageIn text = take (messageSize text) (drop 6 text)
+messageIn text = pick (messageMisfit text) [] (take (messageSize text) (drop 6 text))

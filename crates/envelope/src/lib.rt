@@ -1,4 +1,4 @@
-// What an encrypted UART message and a characteristic packet look like: sealing, and the parts of opening that know their layout.
+// Encrypted UART messages and characteristic packets: sealing, and the parts of opening that depend on their layout.
 mod opening;
 mod sealing;
 
@@ -16,6 +16,7 @@ pub use sealing::seal_characteristic;
 ghost use mathlib.Core.Path.{_≡_};
 ghost use Rattle.envelope.specs.Blocks.{outside as outsideOf};
 
+// Whether a length is below the least or above the most.
 fn outside(least: usize, most: usize, n: usize) -> bool
     ensures { λ r. ⌜ r ≡ outsideOf least most n ⌝ }
 {

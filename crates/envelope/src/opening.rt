@@ -1,5 +1,6 @@
 // Blocks deciphered into a work buffer and judged. Each judge gives the number of the first rule that is broken, 0 where none is.
 use crate::outside;
+use wire::Part;
 use wire::Written;
 ghost use mathlib.Core.Path.{_≡_};
 ghost use mathlib.Core.List.{_∷_, []};
@@ -8,8 +9,8 @@ ghost use lib.ListN.{take, drop};
 ghost use Rattle.wire.specs.Rules.{firstBroken};
 ghost use Rattle.wire.specs.Writing.{Stores, noRoom};
 ghost use Rattle.envelope.specs.Blocks.{blocksIn, deciphered, lengthRule, roomRule, notLeast, allZero, cleared};
-ghost use Rattle.envelope.specs.Sealed.{lateRules, messageIn};
-ghost use Rattle.envelope.specs.Characteristic.{sameBytes, packetSize, characteristicRules, packetIn};
+ghost use Rattle.envelope.specs.Sealed.{messageSize, messageMisfit, lateRules, messageIn};
+ghost use Rattle.envelope.specs.Characteristic.{sameBytes, packetSize, packetMisfit, characteristicRules, packetIn};
 
 // 7, of an encrypted wrapper payload or a characteristic packet.
 pub fn judge_length(payload: &[u8]) -> u8
@@ -64,17 +65,31 @@ pub fn judge_text(text: &[u8]) -> u8
     if wire::read_u32(text, 0) != 0xCAFEBABE {
         return 11;
     }
-    let size = wire::read_u16(text, 4) as usize;
-    if size < 2 {
+    if message_misfit(text) {
         return 12;
     }
-    if not_least(text, 6 + size) {
-        return 12;
-    }
-    if all_zero(text, 6 + size) {
+    if all_zero(text, 6 + message_size(text)) {
         return 0;
     }
     13
+}
+
+// Whether 12 applies: the message size is below 2, or the blocks are not the least number that holds the message.
+fn message_misfit(text: &[u8]) -> bool
+    ensures { λ r. ⌜ r ≡ messageMisfit (now (text .entry)) ⌝ }
+{
+    let size = message_size(text);
+    if size < 2 {
+        return true;
+    }
+    not_least(text, 6 + size)
+}
+
+// The message's length by its size field.
+fn message_size(text: &[u8]) -> usize
+    ensures { λ r. ⌜ (r ≡ messageSize (now (text .entry))) × (r ≤ 65535) ⌝ }
+{
+    wire::read_u16(text, 4) as usize
 }
 
 // 11, 18 and 13, of the blocks of a characteristic packet.
@@ -82,16 +97,22 @@ pub fn judge_characteristic(validation: [u8; 4], text: &[u8]) -> u8
     ensures { λ r. ⌜ r ≡ firstBroken (characteristicRules validation (now (text .entry))) ⌝ }
 {
     if starts_with(text, validation) {
-        let size = packet_size(text);
-        if not_least(text, 4 + size) {
+        if packet_misfit(text) {
             return 18;
         }
-        if all_zero(text, 4 + size) {
+        if all_zero(text, 4 + packet_size(text)) {
             return 0;
         }
         return 13;
     }
     11
+}
+
+// Whether 18 applies: the blocks are not the least number that holds the packet.
+fn packet_misfit(text: &[u8]) -> bool
+    ensures { λ r. ⌜ r ≡ packetMisfit (now (text .entry)) ⌝ }
+{
+    not_least(text, 4 + packet_size(text))
 }
 
 // The packet's length by its own size field.
@@ -142,31 +163,36 @@ fn all_zero(text: &[u8], from: usize) -> bool
     true
 }
 
-// The message in the blocks of an encrypted UART message.
+// The message in the blocks of an encrypted UART message, empty where 12 applies.
 pub fn message_in(text: &[u8]) -> &[u8]
     ensures { λ r. ⌜ now r ≡ messageIn (now (text .entry)) ⌝ }
 {
-    stretch(text, 6, wire::read_u16(text, 4) as usize)
+    if message_misfit(text) {
+        return &text[0..0];
+    }
+    wire::part_of(
+        text,
+        Part {
+            start: 6,
+            len: message_size(text),
+        },
+    )
 }
 
-// The control packet in the blocks of a characteristic packet.
+// The control packet in the blocks of a characteristic packet, empty where 18 applies.
 pub fn packet_in(text: &[u8]) -> &[u8]
     ensures { λ r. ⌜ now r ≡ packetIn (now (text .entry)) ⌝ }
 {
-    stretch(text, 4, packet_size(text))
-}
-
-// So many bytes from a place on, or as many as there are.
-fn stretch(s: &[u8], at: usize, len: usize) -> &[u8]
-    ensures { λ r. ⌜ now r ≡ take len (drop at (now (s .entry))) ⌝ }
-{
-    if s.len() < at {
-        return &s[0..0];
+    if packet_misfit(text) {
+        return &text[0..0];
     }
-    if s.len() - at < len {
-        return &s[at..];
-    }
-    &s[at..at + len]
+    wire::part_of(
+        text,
+        Part {
+            start: 4,
+            len: packet_size(text),
+        },
+    )
 }
 
 // The first n bytes become zero, or as many as there are.

@@ -1,4 +1,4 @@
--- Laws of escaping, and of a run of stores that escapes as it goes. Assumes nothing.
+-- Laws of escaping, and of stores that escape byte by byte. Assumes nothing.
 use mathlib.Core.Path.{_≡_, refl, sym, ap, _∙_}
 use mathlib.Core.List.{List, [], _∷_, _++_, append-assoc}
 use mathlib.Core.Bool.{true, false, not, _||_}

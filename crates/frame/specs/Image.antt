@@ -13,7 +13,7 @@ use Rattle.crc.specs.Crc.{crcOf}
 unfoldable pub isMark : ℕ → Bool
 isMark b = eqb b 0x7E || eqb b 0x5C
 
--- each byte equal to one of them is sent as 5C and then itself XOR 40
+-- each byte equal to 7E or 5C is sent as 5C and then itself XOR 40
 unfoldable pub escapeByte : ℕ → List ℕ
 escapeByte b = pick (isMark b) (0x5C ∷ bitXor b 0x40 ∷ []) (b ∷ [])
 
@@ -25,7 +25,7 @@ escape (b ∷ bs) = escapeByte b ++ escape bs
 abbrev pub covered : ℕ → List ℕ → List ℕ
 covered wrapper payload = 1 ∷ 0 ∷ wrapper ∷ payload
 
--- what the size counts: all that, and the CRC
+-- what the size counts: major, minor, wrapper type, payload and CRC
 abbrev pub body : ℕ → List ℕ → List ℕ
 body wrapper payload = covered wrapper payload ++ le 2 (crcOf (covered wrapper payload))
 

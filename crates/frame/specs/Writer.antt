@@ -1,4 +1,4 @@
--- What the frame writer refuses, and what its own functions say.
+-- What the frame writer refuses, and what its own functions promise.
 use Prim.Native.Nat.{ℕ, _+_}
 use mathlib.Core.Bool.{Bool, not, _||_}
 use mathlib.Core.List.{List, [], _∷_, _++_}

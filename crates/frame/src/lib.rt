@@ -81,7 +81,7 @@ fn put_frame(out: &mut [u8], head: &[u8], payload: &[u8], tail: &[u8])
     put(out, q, tail);
 }
 
-// How many bytes they are on the line.
+// How many bytes a start byte and three parts are on the line.
 fn sent_len(head: &[u8], payload: &[u8], tail: &[u8]) -> usize
     requires { ⌜ length (now head) + length (now payload) + length (now tail) ≤ 1000 ⌝ }
     ensures { λ r. ⌜ r ≡ length (sent (now (head .entry)) (now (payload .entry)) (now (tail .entry))) ⌝ }
@@ -92,7 +92,7 @@ fn sent_len(head: &[u8], payload: &[u8], tail: &[u8]) -> usize
     1 + a + b + c
 }
 
-// They go out where there is room.
+// A start byte and three parts go out at the front: 25 where there is no room.
 fn send(head: &[u8], payload: &[u8], tail: &[u8], out: &mut [u8]) -> Written
     requires { ⌜ length (now head) + length (now payload) + length (now tail) ≤ 1000 ⌝ }
     ensures { λ r. ⌜ Stores (noRoom 0 (sent (now (head .entry)) (now (payload .entry)) (now (tail .entry))) (now (out .entry)) ∷ []) 0
@@ -106,13 +106,13 @@ fn send(head: &[u8], payload: &[u8], tail: &[u8], out: &mut [u8]) -> Written
     Written::Wrote(need)
 }
 
-// Size, major, minor and wrapper type.
+// What stands before the payload: size, major, minor and wrapper type.
 fn header(wrapper: u8, len: usize) -> [u8; 5]
     requires { ⌜ len ≤ 507 ⌝ }
     ensures { λ r. ⌜ r ≡ headerOf wrapper len ⌝ }
 {
-    let size = len + 5;
-    [(size % 256) as u8, (size / 256) as u8, 1, 0, wrapper]
+    let size = wire::u16_bytes((len + 5) as u16);
+    [size[0], size[1], 1, 0, wrapper]
 }
 
 // The CRC, over major, minor, wrapper type and payload.
@@ -124,6 +124,7 @@ fn trailer(wrapper: u8, payload: &[u8]) -> [u8; 2]
     wire::u16_bytes(crc::crc_from(sum, payload))
 }
 
+// 17: a wrapper type or a payload length that no frame has.
 fn bad_frame(wrapper: u8, len: usize) -> bool
     ensures { λ r. ⌜ r ≡ badFrame wrapper len ⌝ }
 {

@@ -15,9 +15,11 @@ use Rattle.wire.specs.Numbers.{le, num}
 use Rattle.wire.proofs.Lists.{part-in}
 use Rattle.crc.specs.Crc.{crcOf}
 use Rattle.frame.specs.Image.{image, body, covered, escape, escapeByte, isMark}
-use Rattle.line.specs.Receive.{stepOf, busy, finished, reading, resting, holding, idle, goes, framePayload, freshReceiver}
+use Rattle.line.specs.Receive.{stepOf, busy, finished, reading, idle, holding, idleReceiver, stepTo, framePayload, freshReceiver}
 use Rattle.line.specs.Moves.{moveOf, takenMove, storedMove, sizedMove, keep, acted, storeAfter}
-use Rattle.line.specs.Line.{Seen, refusal, frame, seen, hear, run, after, Sent, lineOf, framesOf, NoStart, Sendable}
+use Rattle.line.specs.Line.{Emitted, refusal, frame, emitted, gives, insideGives, run, after, SentFrame, lineOf, framesOf, NoStart, Sendable}
+use Rattle.line.proofs.Gives.{step-gives}
+use Rattle.line.proofs.Run.{run-append}
 use Rattle.line.proofs.Moves.{step-moves, move-plain, move-mark, move-3E, move-1C}
 use Rattle.line.specs.declared.Progress.{Progress}
 use Rattle.line.specs.declared.Action.{Action}
@@ -26,25 +28,32 @@ use Rattle.line.specs.declared.Move.{Move}
 use Rattle.line.specs.declared.Receiver.{Receiver}
 use Rattle.line.specs.declared.Step.{Step}
 use Rattle.line.specs.declared.Event.{Event}
-use Rattle.line.specs.declared.Event.the-variants.{Nothing, Frame, Refused}
+use Rattle.line.specs.declared.Event.the-variants.{Frame}
 
--- what a move does to a store, and what is heard of it
-abbrev heard : List ℕ → List ℕ → Move → List Seen
-heard rest s m = hear (acted m s) (run rest)
+-- what is handed out at a step, and then for the rest of the bytes
+abbrev emittedThen : Step → (Receiver → List Emitted) → List Emitted
+emittedThen t rest = emitted (t .event) (t .receiver .store) ++ rest (t .receiver)
 
-run-move : (r : Receiver) (b : ℕ) (rest : List ℕ) (m : Move) → moveOf (r .progress) b ≡ m → run (b ∷ rest) r ≡ heard rest (r .store) m
+-- the same at a move
+abbrev movedThen : List ℕ → List ℕ → Move → List Emitted
+movedThen rest s m = emittedThen (acted m s) (run rest)
+
+run-move : (r : Receiver) (b : ℕ) (rest : List ℕ) (m : Move) → moveOf (r .progress) b ≡ m → run (b ∷ rest) r ≡ movedThen rest (r .store) m
 unfolding run
-run-move r b rest m e = ap (λ (t : Step). hear t (run rest)) (step-moves r b) ∙ ap (heard rest (r .store)) e
+run-move r b rest m e =
+    ap (λ (z : List Emitted). z ++ run rest (stepOf r b .receiver)) (sym (step-gives r b))
+    ∙ ap (λ (t : Step). emittedThen t (run rest)) (step-moves r b)
+    ∙ ap (movedThen rest (r .store)) e
 
 module _ (low got size : ℕ) (h5 : 5 ≤ size) (h512 : size ≤ 512) (hg : got < size + 2) where
   -- one byte, escaped where it is a mark, is taken as it is
   byte : (s : List ℕ) (v : ℕ) (rest : List ℕ)
-      → run (escapeByte v ++ rest) (holding (reading false low got size) s) ≡ heard rest s (takenMove (reading false low got size) v)
+      → run (escapeByte v ++ rest) (holding (reading false low got size) s) ≡ movedThen rest s (takenMove (reading false low got size) v)
   unfolding escapeByte isMark
   byte s v rest = go (eqb v 0x7E) (eqb v 0x5C) refl refl
     where
       Claim : ℕ → List ℕ → Type 0
-      Claim w l = run (l ++ rest) (holding (reading false low got size) s) ≡ heard rest s (takenMove (reading false low got size) w)
+      Claim w l = run (l ++ rest) (holding (reading false low got size) s) ≡ movedThen rest s (takenMove (reading false low got size) w)
 
       out : Bool → ℕ → List ℕ
       out t w = pick t (0x5C ∷ bitXor w 0x40 ∷ []) (w ∷ [])
@@ -59,7 +68,7 @@ module _ (low got size : ℕ) (h5 : 5 ≤ size) (h512 : size ≤ 512) (hg : got 
       go false false p q = run-move _ v rest _ (move-plain low got size h5 h512 hg v (eqb-false _ _ p) (eqb-false _ _ q))
 
 -- the bytes of a body, up to its last, go into the store from place k on
-taken-last : (n g k v : ℕ) → g ≡ k + 2 → g ≡ n + 1 → takenMove (reading false 0 g n) v ≡ record { progress = resting; action = Finish k v n }
+taken-last : (n g k v : ℕ) → g ≡ k + 2 → g ≡ n + 1 → takenMove (reading false 0 g n) v ≡ record { progress = idle; action = Finish k v n }
 unfolding takenMove storedMove
 taken-last n g k v e l =
     let p : g ≡ 0 → ⊥ = omega arith in
@@ -77,19 +86,19 @@ taken-more n g k v e l =
 
 -- what a whole body in the store gives
 abbrev done : ℕ → List ℕ → Step
-done size s = goes resting s (finished size s)
+done size s = stepTo idle s (finished size s)
 
 reads : (n : ℕ) → 5 ≤ n → n ≤ 512 → (rest : List ℕ) (todo : List ℕ) (v g k : ℕ) (s : List ℕ)
     → g ≡ k + 2 → k + length todo + 1 ≡ n
-    → run (escape (v ∷ todo) ++ rest) (holding (reading false 0 g n) s) ≡ hear (done n (sets s k (v ∷ todo))) (run rest)
+    → run (escape (v ∷ todo) ++ rest) (holding (reading false 0 g n) s) ≡ emittedThen (done n (sets s k (v ∷ todo))) (run rest)
 unfolding escape
 reads n h5 h512 rest [] v g k s eg en =
     rw append-assoc
-    (byte 0 g n h5 h512 (omega arith) s v rest ∙ ap (heard rest s) (taken-last n g k v eg (omega arith)))
+    (byte 0 g n h5 h512 (omega arith) s v rest ∙ ap (movedThen rest s) (taken-last n g k v eg (omega arith)))
 reads n h5 h512 rest (w ∷ ws) v g k s eg en =
     rw append-assoc
     (byte 0 g n h5 h512 (omega arith) s v (escape (w ∷ ws) ++ rest)
-    ∙ ap (heard (escape (w ∷ ws) ++ rest) s) (taken-more n g k v eg (omega arith))
+    ∙ ap (movedThen (escape (w ∷ ws) ++ rest) s) (taken-more n g k v eg (omega arith))
     ∙ reads n h5 h512 rest ws w (g + 1) (suc k) (set s k v) (omega arith) (omega arith))
 
 -- a whole body in front of the store
@@ -113,17 +122,12 @@ finished-body wrapper payload t =
     simp (eq-eqb _ _ e, d)
 
 -- what a start byte gives
-abbrev cut : Receiver → List Seen
-cut r = pick (busy (r .progress)) (refusal 1 ∷ []) []
+abbrev atStart : Receiver → List Emitted
+atStart r = pick (busy (r .progress)) (refusal 1 ∷ []) []
 
-start : (r : Receiver) (rest : List ℕ) → run (0x7E ∷ rest) r ≡ cut r ++ run rest (holding (reading false 0 0 5) (r .store))
-unfolding run stepOf
-start r rest = go (busy (r .progress))
-  where
-    go : (b : Bool) → hear (goes (reading false 0 0 5) (r .store) (pick b (Refused 1) Nothing)) (run rest)
-        ≡ pick b (refusal 1 ∷ []) [] ++ run rest (holding (reading false 0 0 5) (r .store))
-    go true = refl
-    go false = refl
+start : (r : Receiver) (rest : List ℕ) → run (0x7E ∷ rest) r ≡ atStart r ++ run rest (holding (reading false 0 0 5) (r .store))
+unfolding run stepOf gives insideGives
+start r rest = refl
 
 sized-in : (n : ℕ) → 5 ≤ n → n ≤ 512 → sizedMove n ≡ keep (reading false 0 2 n)
 unfolding sizedMove
@@ -140,19 +144,19 @@ head n s bs rest h5 h512 =
     simp append-assoc
     (byte 0 0 5 (omega arith) (omega arith) (omega arith) s lo (escapeByte hi ++ (escape bs ++ rest))
     ∙ byte lo 1 5 (omega arith) (omega arith) (omega arith) s hi (escape bs ++ rest)
-    ∙ ap (heard (escape bs ++ rest) s) (ap sizedMove q ∙ sized-in n h5 h512))
+    ∙ ap (movedThen (escape bs ++ rest) s) (ap sizedMove q ∙ sized-in n h5 h512))
 
 -- the payload of a frame that stands whole at the front of the store
-payload-there : (wrapper : ℕ) (payload t : List ℕ) → framePayload (length payload) (body wrapper payload ++ t) ≡ payload
-payload-there wrapper payload t =
+payload-there : (wrapper : ℕ) (payload t : List ℕ) → length payload ≤ 507 → framePayload (length payload) (body wrapper payload ++ t) ≡ payload
+payload-there wrapper payload t hp =
     let two : List ℕ = le 2 (crcOf (covered wrapper payload)) in
     let l : length ((payload ++ two) ++ t) ≡ length payload + 2 + length t = omega (arith, length-append (payload ++ two) t, length-append payload two) in
     let p : take (length payload) ((payload ++ two) ++ t) ≡ payload = rw append-assoc (take-at payload (two ++ t) (length payload) refl) in
-    part-in (body wrapper payload ++ t) 3 (length payload) (omega arith) ∙ p
+    simp (le-leb _ _ hp) (part-in (body wrapper payload ++ t) 3 (length payload) (omega arith) ∙ p)
 
 one-frame : (r : Receiver) (wrapper : ℕ) (payload rest : List ℕ) → length (r .store) ≡ 512 → length payload ≤ 507
     → run (image wrapper payload ++ rest) r
-    ≡ cut r ++ (frame 1 0 wrapper (length payload) payload ∷ run rest (idle (body wrapper payload ++ drop (length payload + 5) (r .store))))
+    ≡ atStart r ++ (frame 1 0 wrapper (length payload) payload ∷ run rest (idleReceiver (body wrapper payload ++ drop (length payload + 5) (r .store))))
 one-frame r wrapper payload rest hs hp =
     let n : ℕ = length payload + 5 in
     let bs : List ℕ = body wrapper payload in
@@ -163,15 +167,15 @@ one-frame r wrapper payload rest hs hp =
     let lt : length (payload ++ two) ≡ length payload + 2 = length-append payload two in
     let lb : 0 + length bs ≡ n = omega arith in
     let st : sets s 0 bs ≡ bs ++ t = sets-eq bs s 0 (omega arith) ∙ ap (λ (k : ℕ). bs ++ drop k s) lb in
-    let inner : run x (holding (reading false 0 0 5) s) ≡ frame 1 0 wrapper (length payload) payload ∷ run rest (idle (bs ++ t)) =
+    let inner : run x (holding (reading false 0 0 5) s) ≡ frame 1 0 wrapper (length payload) payload ∷ run rest (idleReceiver (bs ++ t)) =
     head n s bs rest (omega arith) (omega arith)
     ∙ reads n (omega arith) (omega arith) rest (0 ∷ wrapper ∷ (payload ++ two)) 1 2 0 s refl (omega arith)
-    ∙ ap (λ (z : List ℕ). hear (done n z) (run rest)) st
-    ∙ ap (λ (z : Event). hear (goes resting (bs ++ t) z) (run rest)) (finished-body wrapper payload t)
-    ∙ ap (λ (z : List ℕ). frame 1 0 wrapper (length payload) z ∷ run rest (idle (bs ++ t))) (payload-there wrapper payload t) in
-    start r x ∙ ap (λ (z : List Seen). cut r ++ z) inner
+    ∙ ap (λ (z : List ℕ). emittedThen (done n z) (run rest)) st
+    ∙ ap (λ (z : Event). emittedThen (stepTo idle (bs ++ t) z) (run rest)) (finished-body wrapper payload t)
+    ∙ ap (λ (z : List ℕ). frame 1 0 wrapper (length payload) z ∷ run rest (idleReceiver (bs ++ t))) (payload-there wrapper payload t hp) in
+    start r x ∙ ap (λ (z : List Emitted). atStart r ++ z) inner
 
--- at rest, what is no start byte is dropped
+-- idle, what is no start byte is dropped
 move-idle : (h : Progress) (b : ℕ) → busy h ≡ false → (b ≡ 0x7E → ⊥) → moveOf h b ≡ keep h
 unfolding moveOf
 move-idle h b t p = simp (ne-eqb _ _ p, t)
@@ -180,7 +184,7 @@ pub noise : (r : Receiver) → busy (r .progress) ≡ false → (bs rest : List 
 noise r h [] rest ok = refl
 noise r h (b ∷ bs) rest ok = run-move r b (bs ++ rest) (keep (r .progress)) (move-idle (r .progress) b h (ok .0)) ∙ noise r h bs rest (ok .1)
 
-pub idle-busy : busy resting ≡ false
+pub idle-busy : busy idle ≡ false
 unfolding busy
 idle-busy = refl
 
@@ -188,35 +192,27 @@ body-length : (wrapper : ℕ) (payload s : List ℕ) → length s ≡ 512 → le
     → length (body wrapper payload ++ drop (length payload + 5) s) ≡ 512
 body-length wrapper payload s hs hp = simp (length-append, length-drop) (omega arith)
 
--- a receiver at rest gives the frames of a line in order, and nothing else
-pub frames : (fs : List Sent) (s : List ℕ) → length s ≡ 512 → Sendable fs → run (lineOf fs) (idle s) ≡ framesOf fs
+-- an idle receiver gives the frames of a line in order, and nothing else
+pub frames : (fs : List SentFrame) (s : List ℕ) → length s ≡ 512 → Sendable fs → run (lineOf fs) (idleReceiver s) ≡ framesOf fs
 unfolding lineOf framesOf run busy
 frames [] s hs ok = refl
 frames (f ∷ fs) s hs ok =
     let s′ : List ℕ = body (f .wrapper) (f .payload) ++ drop (length (f .payload) + 5) s in
-    one-frame (idle s) (f .wrapper) (f .payload) (f .noise ++ lineOf fs) hs (ok .0)
-    ∙ ap (λ (z : List Seen). frame 1 0 (f .wrapper) (length (f .payload)) (f .payload) ∷ z)
-    (noise (idle s′) idle-busy (f .noise) (lineOf fs) (ok .1)
+    one-frame (idleReceiver s) (f .wrapper) (f .payload) (f .noise ++ lineOf fs) hs (ok .0)
+    ∙ ap (λ (z : List Emitted). frame 1 0 (f .wrapper) (length (f .payload)) (f .payload) ∷ z)
+    (noise (idleReceiver s′) idle-busy (f .noise) (lineOf fs) (ok .1)
     ∙ frames fs s′ (body-length (f .wrapper) (f .payload) s hs (ok .0)) (ok .2))
 
--- and any other gives refusal 1 first where a frame was unfinished
-pub delivered : (r : Receiver) (f : Sent) (fs : List Sent) → length (r .store) ≡ 512 → Sendable (f ∷ fs)
+-- any receiver gives refusal 1 first where a frame was unfinished, then the frames of a line in order, and nothing else
+pub delivered : (r : Receiver) (f : SentFrame) (fs : List SentFrame) → length (r .store) ≡ 512 → Sendable (f ∷ fs)
     → run (lineOf (f ∷ fs)) r ≡ pick (busy (r .progress)) (refusal 1 ∷ []) [] ++ framesOf (f ∷ fs)
 unfolding lineOf framesOf
 delivered r f fs hs ok =
     let s′ : List ℕ = body (f .wrapper) (f .payload) ++ drop (length (f .payload) + 5) (r .store) in
     one-frame r (f .wrapper) (f .payload) (f .noise ++ lineOf fs) hs (ok .0)
-    ∙ ap (λ (z : List Seen). cut r ++ (frame 1 0 (f .wrapper) (length (f .payload)) (f .payload) ∷ z))
-    (noise (idle s′) idle-busy (f .noise) (lineOf fs) (ok .1)
+    ∙ ap (λ (z : List Emitted). atStart r ++ (frame 1 0 (f .wrapper) (length (f .payload)) (f .payload) ∷ z))
+    (noise (idleReceiver s′) idle-busy (f .noise) (lineOf fs) (ok .1)
     ∙ frames fs s′ (body-length (f .wrapper) (f .payload) (r .store) hs (ok .0)) (ok .2))
-
-pub run-append : (a b : List ℕ) (r : Receiver) → run (a ++ b) r ≡ run a r ++ run b (after a r)
-unfolding run after
-run-append [] b r = refl
-run-append (x ∷ a) b r =
-    let t : Step = stepOf r x in
-    ap (λ (z : List Seen). seen (t .event) (t .receiver .store) ++ z) (run-append a b (t .receiver))
-    ∙ sym (append-assoc (seen (t .event) (t .receiver .store)) (run a (t .receiver)) (run b (after a (t .receiver))))
 
 -- ---- the store keeps its length
 act-kept : (a : Action) (s : List ℕ) → length (storeAfter a s) ≡ length s
@@ -234,20 +230,20 @@ after-kept (b ∷ bs) r =
     ∙ act-kept (moveOf (r .progress) b .action) (r .store)
 
 -- The claim: from the first start byte on, refusal 1 if a frame was unfinished there, then the frames in order, and nothing else.
-pub whole : (r : Receiver) (before : List ℕ) (f : Sent) (fs : List Sent) → length (r .store) ≡ 512 → Sendable (f ∷ fs)
+pub whole : (r : Receiver) (before : List ℕ) (f : SentFrame) (fs : List SentFrame) → length (r .store) ≡ 512 → Sendable (f ∷ fs)
     → run (before ++ lineOf (f ∷ fs)) r ≡ run before r ++ (pick (busy (after before r .progress)) (refusal 1 ∷ []) [] ++ framesOf (f ∷ fs))
 whole r before f fs hs ok =
     run-append before (lineOf (f ∷ fs)) r
-    ∙ ap (λ (z : List Seen). run before r ++ z) (delivered (after before r) f fs (after-kept before r ∙ hs) ok)
+    ∙ ap (λ (z : List Emitted). run before r ++ z) (delivered (after before r) f fs (after-kept before r ∙ hs) ok)
 
 -- ---- a line is made by one list of frames alone
 -- what a fresh receiver hands out
-fresh-hands : (before : List ℕ) (fs : List Sent) → NoStart before → Sendable fs → run (before ++ lineOf fs) freshReceiver ≡ framesOf fs
+fresh-hands : (before : List ℕ) (fs : List SentFrame) → NoStart before → Sendable fs → run (before ++ lineOf fs) freshReceiver ≡ framesOf fs
 fresh-hands before fs clear ok =
     noise freshReceiver idle-busy before (lineOf fs) clear ∙ frames fs (replicate 512 0) (length-replicate {A = ℕ} 512 0) ok
 
 -- Two lists of frames that make the same line, whatever noise is in either, are the same list of frames.
-pub same-line : (fs gs : List Sent) → Sendable fs → Sendable gs → (before before′ : List ℕ) → NoStart before → NoStart before′
+pub same-line : (fs gs : List SentFrame) → Sendable fs → Sendable gs → (before before′ : List ℕ) → NoStart before → NoStart before′
     → before ++ lineOf fs ≡ before′ ++ lineOf gs → framesOf fs ≡ framesOf gs
 same-line fs gs okf okg before before′ clear clear′ e =
     sym (fresh-hands before fs clear okf) ∙ ap (λ (l : List ℕ). run l freshReceiver) e ∙ fresh-hands before′ gs clear′ okg

@@ -1,4 +1,6 @@
 pub mod Moves
+pub mod Gives
+pub mod Run
 pub mod Feeding
 pub mod Delivery
 pub mod Examples

@@ -1,4 +1,4 @@
--- A step is a move and what the move asks of the store, and each move names places of the store alone. Assumes nothing.
+-- A step is a move and the action that it names, and each move keeps to the limits. Assumes nothing.
 use mathlib.Core.Path.{_≡_, refl, sym, ap, ap₂, _∙_, subst}
 use mathlib.Core.List.{List}
 use mathlib.Core.Bool.{Bool, true, false, _&&_}
@@ -8,8 +8,9 @@ use lib.Dec.{leb, ltb, eqb}
 use borrow.Author.Tests.{leb-true, ltb-true, eqb-true, eqb-false, ne-eqb, le-leb, lt-ltb}
 use Rattle.wire.specs.Choice.{pick}
 use Rattle.wire.proofs.Choice.{pick-all, and-holds}
-use Rattle.line.specs.Receive.{within, busy, sized, stored, taken, unescaped, inFrame, stepOf, reading, holding, goes}
-use Rattle.line.specs.Moves.{sizedMove, storedMove, takenMove, unescapedMove, inFrameMove, moveOf, keep, Fine, acted, storeAfter, eventOf}
+use Rattle.line.specs.Receive.{within, busy, sized, stored, taken, unescaped, inFrame, stepOf, reading, holding, stepTo}
+use Rattle.line.specs.Moves.{sizedMove, storedMove, takenMove, unescapedMove, inFrameMove, moveOf, keep, WithinLimits, acted, storeAfter, eventOf, ActsOn}
+use Rattle.line.specs.declared.Action.{Action}
 use Rattle.line.specs.declared.Action.the-variants.{Keep, Refuse}
 use Rattle.line.specs.declared.Progress.{Progress}
 use Rattle.line.specs.declared.Move.{Move}
@@ -34,88 +35,91 @@ pub busy-inside : (p : Progress) → busy p ≡ true → p .inside ≡ true
 unfolding busy
 busy-inside p t = and-holds (p .inside) (within (p .size) && ltb (p .got) (p .size + 2)) t .0
 
--- ---- a move names places of the store alone
-Good : Move → Type 0
-Good m = Fine (m .action)
+-- ---- the action of a move is within the limits
+MoveWithin : Move → Type 0
+MoveWithin m = WithinLimits (m .action)
 
-taken-good : (p : Progress) (v : ℕ) → 5 ≤ p .size → p .size ≤ 512 → p .got < p .size + 2 → Good (takenMove p v)
-unfolding takenMove sizedMove storedMove Good
-taken-good p v h5 h512 hg =
-    pick-all Good (eqb (p .got) 0) (λ e. tt)
-    (λ e0. pick-all Good (eqb (p .got) 1) (λ e. pick-all Good (within (p .low + 256 * v)) (λ w. tt) (λ w. tt))
-    (λ e1. pick-all Good (eqb (p .got) (p .size + 1))
+taken-within : (p : Progress) (v : ℕ) → 5 ≤ p .size → p .size ≤ 512 → p .got < p .size + 2 → MoveWithin (takenMove p v)
+unfolding takenMove sizedMove storedMove MoveWithin
+taken-within p v h5 h512 hg =
+    pick-all MoveWithin (eqb (p .got) 0) (λ e. tt)
+    (λ e0. pick-all MoveWithin (eqb (p .got) 1) (λ e. pick-all MoveWithin (within (p .low + 256 * v)) (λ w. tt) (λ w. (omega arith, omega arith)))
+    (λ e1. pick-all MoveWithin (eqb (p .got) (p .size + 1))
     (λ e. let g : p .got ≡ p .size + 1 = eqb-true _ _ e in (omega arith, h5, h512))
     (λ e. let g : p .got ≡ p .size + 1 → ⊥ = eqb-false _ _ e in omega arith)))
 
-start-good : (p : Progress) (t : Bool) → Good (record { progress = p; action = pick t (Refuse 1) Keep })
-unfolding Good
-start-good p true = tt
-start-good p false = tt
+start-within : (p : Progress) (t : Bool) → MoveWithin (record { progress = p; action = pick t (Refuse 1) Keep })
+unfolding MoveWithin
+start-within p true = (omega arith, omega arith)
+start-within p false = tt
 
-move-good : (p : Progress) (b : ℕ) → Good (moveOf p b)
-unfolding moveOf inFrameMove unescapedMove Good
-move-good p b =
-    pick-all Good (eqb b 0x7E) (λ e. start-good (reading false 0 0 5) (busy p))
-    (λ e. pick-all Good (busy p)
+move-within : (p : Progress) (b : ℕ) → MoveWithin (moveOf p b)
+unfolding moveOf inFrameMove unescapedMove MoveWithin
+move-within p b =
+    pick-all MoveWithin (eqb b 0x7E) (λ e. start-within (reading false 0 0 5) (busy p))
+    (λ e. pick-all MoveWithin (busy p)
     (λ t.
     let k = busy-counts p t in
-    pick-all Good (p .escaped)
-    (λ s. pick-all Good (eqb b 0x3E)
-    (λ x. taken-good p 0x7E (k .0) (k .1) (k .2))
-    (λ x. pick-all Good (eqb b 0x1C) (λ y. taken-good p 0x5C (k .0) (k .1) (k .2)) (λ y. tt)))
-    (λ s. pick-all Good (eqb b 0x5C) (λ x. tt) (λ x. taken-good p b (k .0) (k .1) (k .2))))
+    pick-all MoveWithin (p .escaped)
+    (λ s. pick-all MoveWithin (eqb b 0x3E)
+    (λ x. taken-within p 0x7E (k .0) (k .1) (k .2))
+    (λ x. pick-all MoveWithin (eqb b 0x1C) (λ y. taken-within p 0x5C (k .0) (k .1) (k .2)) (λ y. (omega arith, omega arith))))
+    (λ s. pick-all MoveWithin (eqb b 0x5C) (λ x. tt) (λ x. taken-within p b (k .0) (k .1) (k .2))))
     (λ t. tt))
 
-pub fine : (p : Progress) (b : ℕ) (m : Move) → m ≡ moveOf p b → Fine (m .action)
-unfolding Good
-fine p b m e = subst Good (sym e) (move-good p b)
+pub move-limits : (p : Progress) (b : ℕ) (m : Move) → m ≡ moveOf p b → WithinLimits (m .action)
+unfolding MoveWithin
+move-limits p b m e = subst MoveWithin (sym e) (move-within p b)
 
 -- ---- a step is a move, acted on
-record Acts (s : List ℕ) (x : Step) (m : Move) : Type 0 where
+record IsActed (s : List ℕ) (x : Step) (m : Move) : Type 0 where
   same : x ≡ acted m s
 
-acts : {s : List ℕ} (m : Move) → Acts s (acted m s) m
-acts m = record { same = refl }
+is-acted : {s : List ℕ} (m : Move) → IsActed s (acted m s) m
+is-acted m = record { same = refl }
 
-pick-acts : {s : List ℕ} (t : Bool) {x y : Step} {m n : Move} → Acts s x m → Acts s y n → Acts s (pick t x y) (pick t m n)
-pick-acts true p q = p
-pick-acts false p q = q
+pick-acted : {s : List ℕ} (t : Bool) {x y : Step} {m n : Move} → IsActed s x m → IsActed s y n → IsActed s (pick t x y) (pick t m n)
+pick-acted true p q = p
+pick-acted false p q = q
 
-taken-acts : (p : Progress) (s : List ℕ) (v : ℕ) → Acts s (taken p s v) (takenMove p v)
+taken-acted : (p : Progress) (s : List ℕ) (v : ℕ) → IsActed s (taken p s v) (takenMove p v)
 unfolding taken sized stored takenMove sizedMove storedMove
-taken-acts p s v =
-    pick-acts (eqb (p .got) 0) (acts _)
-    (pick-acts (eqb (p .got) 1)
-    (pick-acts (within (p .low + 256 * v)) (acts _) (acts _))
-    (pick-acts (eqb (p .got) (p .size + 1)) (acts _) (acts _)))
+taken-acted p s v =
+    pick-acted (eqb (p .got) 0) (is-acted _)
+    (pick-acted (eqb (p .got) 1)
+    (pick-acted (within (p .low + 256 * v)) (is-acted _) (is-acted _))
+    (pick-acted (eqb (p .got) (p .size + 1)) (is-acted _) (is-acted _)))
 
-in-frame-acts : (p : Progress) (s : List ℕ) (b : ℕ) → Acts s (inFrame p s b) (inFrameMove p b)
+in-frame-acted : (p : Progress) (s : List ℕ) (b : ℕ) → IsActed s (inFrame p s b) (inFrameMove p b)
 unfolding inFrame unescaped inFrameMove unescapedMove
-in-frame-acts p s b =
-    pick-acts (p .escaped)
-    (pick-acts (eqb b 0x3E) (taken-acts p s 0x7E) (pick-acts (eqb b 0x1C) (taken-acts p s 0x5C) (acts _)))
-    (pick-acts (eqb b 0x5C) (acts _) (taken-acts p s b))
+in-frame-acted p s b =
+    pick-acted (p .escaped)
+    (pick-acted (eqb b 0x3E) (taken-acted p s 0x7E) (pick-acted (eqb b 0x1C) (taken-acted p s 0x5C) (is-acted _)))
+    (pick-acted (eqb b 0x5C) (is-acted _) (taken-acted p s b))
 
-start-acts : (s : List ℕ) (t : Bool)
-    → Acts s (goes (reading false 0 0 5) s (pick t (Refused 1) Nothing)) (record { progress = reading false 0 0 5; action = pick t (Refuse 1) Keep })
-start-acts s true = record { same = refl }
-start-acts s false = record { same = refl }
+start-acted : (s : List ℕ) (t : Bool)
+    → IsActed s (stepTo (reading false 0 0 5) s (pick t (Refused 1) Nothing)) (record { progress = reading false 0 0 5; action = pick t (Refuse 1) Keep })
+start-acted s true = record { same = refl }
+start-acted s false = record { same = refl }
 
-step-acts : (r : Receiver) (b : ℕ) → Acts (r .store) (stepOf r b) (moveOf (r .progress) b)
+step-acted : (r : Receiver) (b : ℕ) → IsActed (r .store) (stepOf r b) (moveOf (r .progress) b)
 unfolding stepOf moveOf
-step-acts r b =
-    pick-acts (eqb b 0x7E) (start-acts (r .store) (busy (r .progress)))
-    (pick-acts (busy (r .progress)) (in-frame-acts (r .progress) (r .store) b) (acts _))
+step-acted r b =
+    pick-acted (eqb b 0x7E) (start-acted (r .store) (busy (r .progress)))
+    (pick-acted (busy (r .progress)) (in-frame-acted (r .progress) (r .store) b) (is-acted _))
 
 pub step-moves : (r : Receiver) (b : ℕ) → stepOf r b ≡ acted (moveOf (r .progress) b) (r .store)
-step-moves r b = step-acts r b .same
+step-moves r b = step-acted r b .same
+
+-- an action done, where it is known which
+pub acts-on : (a x : Action) (s : List ℕ) (e : Event) → a ≡ x → e ≡ eventOf x (storeAfter x s) → ActsOn a s (storeAfter x s) e
+acts-on a x s e h q = subst (λ (y : Action). ActsOn y s (storeAfter x s) e) (sym h) (record { store = refl; event = q })
 
 -- a step, from a move and what was done with the store
 pub stepped : (p : Progress) (b : ℕ) (s : List ℕ) (m : Move) (l : List ℕ) (e : Event)
-    → m ≡ moveOf p b → l ≡ storeAfter (m .action) s → e ≡ eventOf (m .action) (storeAfter (m .action) s)
-    → record { receiver = holding (m .progress) l; event = e } ≡ stepOf (holding p s) b
-stepped p b s m l e h q w =
-    ap₂ (λ (x : List ℕ) (y : Event). record { receiver = holding (m .progress) x; event = y }) q w
+    → m ≡ moveOf p b → ActsOn (m .action) s l e → stepTo (m .progress) l e ≡ stepOf (holding p s) b
+stepped p b s m l e h o =
+    ap₂ (λ (x : List ℕ) (y : Event). stepTo (m .progress) x y) (o .store) (o .event)
     ∙ ap (λ (x : Move). acted x s) h
     ∙ sym (step-moves (holding p s) b)
 

@@ -2,10 +2,11 @@
 use Prim.Native.Nat.{ℕ, suc, _+_, _-_, _≤_}
 use mathlib.Core.List.{List, [], _∷_}
 use mathlib.Core.Bool.{Bool, true, false}
-use lib.ListN.{length, drop, set}
+use lib.ListN.{length, take, drop, set}
 use mathlib.Core.Path.{_≡_}
 use Rattle.wire.specs.Choice.{pick}
 use Rattle.line.specs.Receive.{stepOf, busy, reading, holding}
+use Rattle.line.specs.Line.{emitted, run}
 use Rattle.line.specs.declared.Progress.{Progress}
 use Rattle.line.specs.declared.Receiver.{Receiver}
 use Rattle.line.specs.declared.Fed.{Fed}
@@ -28,15 +29,25 @@ fed n (b ∷ bs) r =
 abbrev pub fedTo : Progress → List ℕ → Event → ℕ → Fed
 fedTo p s e used = record { receiver = holding p s; event = e; used = used }
 
--- ---- what the code's inner loops say
--- a byte of a frame behind its size that is not the last, w bytes on the line, goes into the store; nothing is said where w is 0
-abbrev pub Brings : List ℕ → ℕ → ℕ → ℕ → Type 0
-Brings s i w v =
-    (w ≡ 0 → ⊥) → (w ≤ 2) × (i + w ≤ length s)
-    × ((low got size : ℕ) (st : List ℕ) → 2 ≤ got → 5 ≤ size → size ≤ 512 → got ≤ size
-    → fed i (drop i s) (holding (reading false low got size) st)
-    ≡ fed (i + w) (drop (i + w) s) (holding (reading false low (got + 1) size) (set st (got - 2) v)))
+-- what a function promises that takes the bytes of s from a place on: its answer, and that what is handed out is what the bytes up to
+-- `used` give one by one
+pub record Feeds (s : List ℕ) (from : ℕ) (r : Receiver) (f : Fed) : Type 0 where
+  pub answer : f ≡ fed from (drop from s) r
+  pub emits : emitted (f .event) (f .receiver .store) ≡ run (take (f .used - from) (drop from s)) r
 
--- from one place of a list to another nothing happens to a receiver that is inside no frame
+-- ---- what the code's inner loops promise
+-- the bytes between two places of s give no event: a feed from the first is a feed from the second, with the receiver after them
+pub record Skips (s : List ℕ) (from : ℕ) (r : Receiver) (to : ℕ) (r′ : Receiver) : Type 0 where
+  pub forward : from ≤ to
+  pub same : fed from (drop from s) r ≡ fed to (drop to s) r′
+
+-- v is the unescaped byte at a place of s, w bytes on the line: behind a frame's size, where it is not the last, it is put into the store
+pub record Unescapes (s : List ℕ) (i w v : ℕ) : Type 0 where
+  pub fits : i + w ≤ length s
+  pub puts :
+      (low got size : ℕ) (st : List ℕ) → 2 ≤ got → 5 ≤ size → size ≤ 512 → got ≤ size
+      → Skips s i (holding (reading false low got size) st) (i + w) (holding (reading false low (got + 1) size) (set st (got - 2) v))
+
+-- between two places of s nothing happens to a receiver that is inside no frame
 abbrev pub Passes : List ℕ → ℕ → ℕ → Type 0
-Passes s from to = (p : Progress) (st : List ℕ) → busy p ≡ false → fed from (drop from s) (holding p st) ≡ fed to (drop to s) (holding p st)
+Passes s from to = (p : Progress) (st : List ℕ) → busy p ≡ false → Skips s from (holding p st) to (holding p st)

@@ -1,4 +1,4 @@
 pub mod Receive
-pub mod Feed
 pub mod Line
+pub mod Feed
 pub mod Moves

@@ -1,6 +1,6 @@
 -- What one byte does to the receiver: document 01, 'Line'.
 use Prim.Native.Nat.{ℕ, _+_, _-_, _*_}
-use mathlib.Core.List.{List}
+use mathlib.Core.List.{List, []}
 use mathlib.Core.Bool.{Bool, true, false, _&&_}
 use lib.ListN.{take, getD, set, replicate}
 use lib.Dec.{eqb, leb, ltb}
@@ -17,8 +17,8 @@ use Rattle.line.specs.declared.Event.the-variants.{Nothing, Frame, Refus
 -- ---- the record
 -- idle, and inside a frame: whether the last byte was 5C, the size's low byte, how many unescaped bytes have come, and the size,
 -- 5 until it has come
-abbrev pub resting : Progress
-resting = record { inside = false; escaped = false; low = 0; got = 0; size = 5 }
+abbrev pub idle : Progress
+idle = record { inside = false; escaped = false; low = 0; got = 0; size = 5 }
 
 abbrev pub reading : Bool → ℕ → ℕ → ℕ → Progress
 reading escaped low got size = record { inside = true; escaped = escaped; low = low; got = got; size = size }
@@ -26,12 +26,12 @@ reading escaped low got size = record { inside = true; escaped = escaped; low = 
 abbrev pub holding : Progress → List ℕ → Receiver
 holding p s = record { progress = p; store = s }
 
-abbrev pub idle : List ℕ → Receiver
-idle s = holding resting s
+abbrev pub idleReceiver : List ℕ → Receiver
+idleReceiver s = holding idle s
 
 -- the store is zero when fresh
 abbrev pub freshReceiver : Receiver
-freshReceiver = idle (replicate 512 0)
+freshReceiver = idleReceiver (replicate 512 0)
 
 -- a size is 5 to 512
 abbrev pub within : ℕ → Bool
@@ -42,16 +42,16 @@ unfoldable pub busy : Progress → Bool
 busy p = p .inside && (within (p .size) && ltb (p .got) (p .size + 2))
 
 -- ---- one byte: how the record stands after it, and the event
-abbrev pub goes : Progress → List ℕ → Event → Step
-goes p s e = record { receiver = holding p s; event = e }
+abbrev pub stepTo : Progress → List ℕ → Event → Step
+stepTo p s e = record { receiver = holding p s; event = e }
 
 -- a refused frame leaves the receiver idle
-abbrev pub refused : ℕ → List ℕ → Step
-refused n s = goes resting s (Refused n)
+abbrev pub refusedStep : ℕ → List ℕ → Step
+refusedStep n s = stepTo idle s (Refused n)
 
 -- the size is complete: 3 where it is below 5 or above 512
 unfoldable pub sized : ℕ → List ℕ → Step
-sized size s = pick (within size) (goes (reading false 0 2 size) s Nothing) (refused 3 s)
+sized size s = pick (within size) (stepTo (reading false 0 2 size) s Nothing) (refusedStep 3 s)
 
 -- the frame is complete: 4 where the CRC over major through payload differs
 unfoldable pub finished : ℕ → List ℕ → Event
@@ -64,38 +64,38 @@ finished size s =
 unfoldable pub stored : Progress → List ℕ → ℕ → Step
 stored p s v =
     pick (eqb (p .got) (p .size + 1))
-    (goes resting (set s (p .got - 2) v) (finished (p .size) (set s (p .got - 2) v)))
-    (goes (reading false (p .low) (p .got + 1) (p .size)) (set s (p .got - 2) v) Nothing)
+    (stepTo idle (set s (p .got - 2) v) (finished (p .size) (set s (p .got - 2) v)))
+    (stepTo (reading false (p .low) (p .got + 1) (p .size)) (set s (p .got - 2) v) Nothing)
 
 -- an unescaped byte: the size's low byte, its high byte, or one after the size
 unfoldable pub taken : Progress → List ℕ → ℕ → Step
 taken p s v =
     pick (eqb (p .got) 0)
-    (goes (reading false v 1 (p .size)) s Nothing)
+    (stepTo (reading false v 1 (p .size)) s Nothing)
     (pick (eqb (p .got) 1)
     (sized (p .low + 256 * v) s)
     (stored p s v))
 
 -- a byte after 5C that is no start byte: 2 where it is neither 3E nor 1C
 unfoldable pub unescaped : Progress → List ℕ → ℕ → Step
-unescaped p s b = pick (eqb b 0x3E) (taken p s 0x7E) (pick (eqb b 0x1C) (taken p s 0x5C) (refused 2 s))
+unescaped p s b = pick (eqb b 0x3E) (taken p s 0x7E) (pick (eqb b 0x1C) (taken p s 0x5C) (refusedStep 2 s))
 
 -- a byte inside a frame that is no start byte
 unfoldable pub inFrame : Progress → List ℕ → ℕ → Step
 inFrame p s b =
     pick (p .escaped)
     (unescaped p s b)
-    (pick (eqb b 0x5C) (goes (reading true (p .low) (p .got) (p .size)) s Nothing) (taken p s b))
+    (pick (eqb b 0x5C) (stepTo (reading true (p .low) (p .got) (p .size)) s Nothing) (taken p s b))
 
 -- 7E in any condition begins a new frame, with 1 inside an unfinished one; idle, any other byte is dropped
 unfoldable pub stepOf : Receiver → ℕ → Step
 stepOf r b =
     pick (eqb b 0x7E)
-    (goes (reading false 0 0 5) (r .store) (pick (busy (r .progress)) (Refused 1) Nothing))
+    (stepTo (reading false 0 0 5) (r .store) (pick (busy (r .progress)) (Refused 1) Nothing))
     (pick (busy (r .progress))
     (inFrame (r .progress) (r .store) b)
-    (goes (r .progress) (r .store) Nothing))
+    (stepTo (r .progress) (r .store) Nothing))
 
--- ---- a frame's payload, as it stands in the store behind major, minor and wrapper type
+-- ---- a frame's payload, 0 to 507 bytes, as it stands in the store behind major, minor and wrapper type
 abbrev pub framePayload : ℕ → List ℕ → List ℕ
-framePayload len s = partOf s (part 3 len)
+framePayload len s = pick (leb len 507) (partOf s (part 3 len)) []

@@ -1,11 +1,13 @@
-// The receiver of a serial line. Its progress, flags and counts, goes by value through small functions; its store is written in one place.
+// The receiver of a serial line. Its progress, flags and counts, is passed by value through small functions; its store is written in one place.
 ghost use mathlib.Core.Path.{_≡_};
 ghost use mathlib.Core.Bool.{false, _||_};
 ghost use Prim.Native.Nat.{_+_, _<_, _≤_};
 ghost use lib.Dec.{eqb, ltb};
-ghost use lib.ListN.{length, take, drop};
+ghost use lib.ListN.{length, take};
 ghost use Rattle.line.specs.Receive as specs;
+ghost use Rattle.line.specs.Line.{Received};
 ghost use Rattle.line.specs.Feed as feeding;
+ghost use Rattle.line.specs.Feed.{Skips, Unescapes, Feeds};
 ghost use Rattle.line.specs.Moves as moves;
 use wire::Part;
 
@@ -28,7 +30,7 @@ pub struct Receiver {
     pub store: [u8; 512],
 }
 
-// What a byte brings: nothing, a frame whose bytes stand in the store, or a refusal's number.
+// What a byte gives: nothing, a frame whose bytes stand in the store, or a refusal's number.
 pub enum Event {
     Nothing,
     Frame {
@@ -46,7 +48,7 @@ pub struct Step {
     pub event: Event,
 }
 
-// What a byte asks of the store: nothing, a byte in its place, a frame's last byte in its place, or nothing and a refusal.
+// What is to be done with the store: nothing, a byte put in its place, a frame's last byte put in its place, or nothing and a refusal.
 enum Action {
     Keep,
     Put { at: usize, byte: u8 },
@@ -54,24 +56,31 @@ enum Action {
     Refuse(u8),
 }
 
-// What a byte does to the progress, and what it asks of the store.
+// The progress after a byte, and what is to be done with the store.
 struct Move {
     progress: Progress,
     action: Action,
 }
 
-// At rest, with a store of zeros.
+// The progress of an idle receiver.
+fn idle() -> Progress
+    ensures { λ p. ⌜ p ≡ specs.idle ⌝ }
+{
+    Progress {
+        inside: false,
+        escaped: false,
+        low: 0,
+        got: 0,
+        size: 5,
+    }
+}
+
+// Idle, with a store of zeros.
 pub fn fresh() -> Receiver
     ensures { λ r. ⌜ r ≡ specs.freshReceiver ⌝ }
 {
     Receiver {
-        progress: Progress {
-            inside: false,
-            escaped: false,
-            low: 0,
-            got: 0,
-            size: 5,
-        },
+        progress: idle(),
         store: [0; 512],
     }
 }
@@ -81,13 +90,7 @@ fn refuse(n: u8) -> Move
     ensures { λ m. ⌜ m ≡ moves.refuse n ⌝ }
 {
     Move {
-        progress: Progress {
-            inside: false,
-            escaped: false,
-            low: 0,
-            got: 0,
-            size: 5,
-        },
+        progress: idle(),
         action: Action::Refuse(n),
     }
 }
@@ -102,7 +105,7 @@ fn within(size: usize) -> bool
     size <= 512
 }
 
-// The size is complete.
+// The size is complete: 3 where no frame has that size.
 fn sized(size: usize) -> Move
     ensures { λ m. ⌜ m ≡ moves.sizedMove size ⌝ }
 {
@@ -121,20 +124,14 @@ fn sized(size: usize) -> Move
     refuse(3)
 }
 
-// An unescaped byte after the size.
+// An unescaped byte after the size is for the next place of the store; the last one finishes the frame.
 fn stored(low: u8, got: usize, size: usize, v: u8) -> Move
     requires { ⌜ (2 ≤ got) × (size ≤ 512) × (got < size + 2) ⌝ }
     ensures { λ m. ⌜ m ≡ moves.storedMove low got size v ⌝ }
 {
     if got == size + 1 {
         Move {
-            progress: Progress {
-                inside: false,
-                escaped: false,
-                low: 0,
-                got: 0,
-                size: 5,
-            },
+            progress: idle(),
             action: Action::Finish {
                 at: got - 2,
                 byte: v,
@@ -172,7 +169,7 @@ impl Progress {
         false
     }
 
-    // An unescaped byte.
+    // An unescaped byte: the size's low byte, its high byte, or one after the size.
     fn taken(self, v: u8) -> Move
         requires { ⌜ (self .size ≤ 512) × (self .got < self .size + 2) ⌝ }
         ensures { λ m. ⌜ m ≡ moves.takenMove self v ⌝ }
@@ -196,7 +193,7 @@ impl Progress {
         }
     }
 
-    // A byte after 5C that is no start byte.
+    // A byte after 5C that is no start byte: 2 where it is neither 3E nor 1C.
     fn unescaped(self, b: u8) -> Move
         requires { ⌜ (self .size ≤ 512) × (self .got < self .size + 2) ⌝ }
         ensures { λ m. ⌜ m ≡ moves.unescapedMove self b ⌝ }
@@ -233,7 +230,7 @@ impl Progress {
         }
     }
 
-    // What a byte does to the progress, and what it asks of the store.
+    // The progress after a byte, and what is to be done with the store.
     fn step(self, b: u8) -> Move
         ensures { λ m. ⌜ m ≡ moves.moveOf self b ⌝ }
     {
@@ -267,7 +264,7 @@ impl Progress {
     }
 }
 
-// The first bytes of the store.
+// The first `n` bytes of the store.
 fn front(store: &[u8], n: usize) -> &[u8]
     requires { ⌜ n ≤ length (now store) ⌝ }
     ensures { λ r. ⌜ now r ≡ take n (now (store .entry)) ⌝ }
@@ -275,7 +272,7 @@ fn front(store: &[u8], n: usize) -> &[u8]
     &store[..n]
 }
 
-// A frame of this size is complete in the store.
+// A frame of this size is complete in the store: 4 where its CRC differs.
 fn finished(store: &[u8; 512], size: usize) -> Event
     requires { ⌜ (5 ≤ size) × (size ≤ 512) ⌝ }
     ensures { λ e. ⌜ e ≡ specs.finished size (now (store .entry)) ⌝ }
@@ -296,11 +293,10 @@ fn finished(store: &[u8; 512], size: usize) -> Event
     }
 }
 
-// The store is written, in one place at most.
+// The action is done: the store is written, in one place at most, and the event given.
 fn acted(store: &mut [u8; 512], action: Action) -> Event
-    requires { ⌜ moves.Fine action ⌝ }
-    ensures { λ e. ⌜ (now (store .exit) ≡ moves.storeAfter action (now (store .entry)))
-        × (e ≡ moves.eventOf action (moves.storeAfter action (now (store .entry)))) ⌝ }
+    requires { ⌜ moves.WithinLimits action ⌝ }
+    ensures { λ e. ⌜ moves.ActsOn action (now (store .entry)) (now (store .exit)) e ⌝ }
 {
     match action {
         Action::Keep => Event::Nothing,
@@ -317,9 +313,9 @@ fn acted(store: &mut [u8; 512], action: Action) -> Event
 }
 
 impl Receiver {
-    // What one byte does.
+    // One byte: the record after it, and the event.
     pub fn step(self, b: u8) -> Step
-        ensures { λ t. ⌜ t ≡ specs.stepOf self b ⌝ }
+        ensures { λ t. ⌜ Received self b (t .receiver) (t .event) ⌝ }
     {
         let was = self.progress;
         let mut store = self.store;
@@ -341,6 +337,7 @@ pub struct Fed {
     pub used: usize,
 }
 
+// Whether there is no event.
 fn silent(e: Event) -> bool
     ensures { λ r. ⌜ r ≡ feeding.silent e ⌝ }
 {
@@ -356,13 +353,13 @@ fn silent(e: Event) -> bool
     }
 }
 
-// How far a run of bytes went that changed nothing but the store and the count.
-struct Ran {
+// The progress after bytes that gave no event, and the place behind them.
+struct Skipped {
     progress: Progress,
     at: usize,
 }
 
-// An unescaped byte and how many bytes it was on the line; 0 for a byte that is left to the step.
+// An unescaped byte, and how many bytes it is on the line: 0 for a byte that is left to the step.
 struct Unescaped {
     byte: u8,
     width: usize,
@@ -371,7 +368,7 @@ struct Unescaped {
 // The unescaped byte that stands at a place of a frame.
 fn unescape_at(s: &[u8], i: usize) -> Unescaped
     requires { ⌜ i < length (now s) ⌝ }
-    ensures { λ u. ⌜ feeding.Brings (now (s .entry)) i (u .width) (u .byte) ⌝ }
+    ensures { λ u. ⌜ ((u .width ≡ 0 → ⊥) → Unescapes (now (s .entry)) i (u .width) (u .byte)) ⌝ }
 {
     let b = s[i];
     if b == 0x7E {
@@ -410,19 +407,17 @@ fn leaves(width: usize, got: usize, size: usize) -> bool
     size < got
 }
 
-// Bytes of a frame behind its size, up to its last, go into the store.
-fn body(store: &mut [u8; 512], low: u8, had: usize, size: usize, s: &[u8], from: usize) -> Ran
+// Bytes of a frame behind its size, up to its last, are put into the store.
+fn body(store: &mut [u8; 512], low: u8, had: usize, size: usize, s: &[u8], from: usize) -> Skipped
     requires { ⌜ (2 ≤ had) × (5 ≤ size) × (size ≤ 512) × (had < size + 2) ⌝ }
-    ensures { λ p. ⌜ (from ≤ p .at)
-        × (feeding.fed from (drop from (now (s .entry))) (specs.holding (specs.reading false low had size) (now (store .entry)))
-        ≡ feeding.fed (p .at) (drop (p .at) (now (s .entry))) (specs.holding (p .progress) (now (store .exit)))) ⌝ }
+    ensures { λ p. ⌜ Skips (now (s .entry)) from (specs.holding (specs.reading false low had size) (now (store .entry))) (p .at) (specs.holding (p .progress) (now (store .exit))) ⌝ }
 {
     let mut got = had;
     let mut i = from;
     while i < s.len() {
         let u = unescape_at(s, i);
         if leaves(u.width, got, size) {
-            return Ran {
+            return Skipped {
                 progress: Progress {
                     inside: true,
                     escaped: false,
@@ -438,7 +433,7 @@ fn body(store: &mut [u8; 512], low: u8, had: usize, size: usize, s: &[u8], from:
         got += 1;
         i += u.width;
     }
-    Ran {
+    Skipped {
         progress: Progress {
             inside: true,
             escaped: false,
@@ -450,9 +445,9 @@ fn body(store: &mut [u8; 512], low: u8, had: usize, size: usize, s: &[u8], from:
     }
 }
 
-// Noise, up to the next start byte, is passed over.
+// Noise, up to the next start byte, is passed over; the place behind it is given.
 fn noise(s: &[u8], from: usize) -> usize
-    ensures { λ r. ⌜ (from ≤ r) × feeding.Passes (now (s .entry)) from r ⌝ }
+    ensures { λ r. ⌜ feeding.Passes (now (s .entry)) from r ⌝ }
 {
     let mut i = from;
     while i < s.len() {
@@ -465,27 +460,25 @@ fn noise(s: &[u8], from: usize) -> usize
 }
 
 // As many bytes as change nothing but the store and the count: noise, and bytes of a frame.
-fn skip(progress: Progress, store: &mut [u8; 512], s: &[u8], from: usize) -> Ran
-    ensures { λ p. ⌜ (from ≤ p .at)
-        × (feeding.fed from (drop from (now (s .entry))) (specs.holding progress (now (store .entry)))
-        ≡ feeding.fed (p .at) (drop (p .at) (now (s .entry))) (specs.holding (p .progress) (now (store .exit)))) ⌝ }
+fn skip(progress: Progress, store: &mut [u8; 512], s: &[u8], from: usize) -> Skipped
+    ensures { λ p. ⌜ Skips (now (s .entry)) from (specs.holding progress (now (store .entry))) (p .at) (specs.holding (p .progress) (now (store .exit))) ⌝ }
 {
     if !progress.busy() {
-        return Ran {
+        return Skipped {
             progress,
             at: noise(s, from),
         };
     }
     if progress.escaped {
-        return Ran { progress, at: from };
+        return Skipped { progress, at: from };
     }
     if progress.got < 2 {
-        return Ran { progress, at: from };
+        return Skipped { progress, at: from };
     }
     body(store, progress.low, progress.got, progress.size, s, from)
 }
 
-// The same without the store.
+// The progress after some bytes, the event that they ended with, and the place behind them.
 pub struct Advanced {
     pub progress: Progress,
     pub event: Event,
@@ -494,7 +487,7 @@ pub struct Advanced {
 
 // The bytes of `s` from `from` on, up to the first event or to the end, into a store that is lent.
 pub fn advance(start: Progress, store: &mut [u8; 512], s: &[u8], from: usize) -> Advanced
-    ensures { λ a. ⌜ feeding.fedTo (a .progress) (now (store .exit)) (a .event) (a .used) ≡ feeding.fed from (drop from (now (s .entry))) (specs.holding start (now (store .entry))) ⌝ }
+    ensures { λ a. ⌜ Feeds (now (s .entry)) from (specs.holding start (now (store .entry))) (feeding.fedTo (a .progress) (now (store .exit)) (a .event) (a .used)) ⌝ }
 {
     let mut progress = start;
     let mut i = from;
@@ -524,9 +517,9 @@ pub fn advance(start: Progress, store: &mut [u8; 512], s: &[u8], from: usize) ->
 }
 
 impl Receiver {
-    // `advance` for a record by value.
+    // The bytes of `s` from `from` on, up to the first event or to the end, into a record by value.
     pub fn feed(self, s: &[u8], from: usize) -> Fed
-        ensures { λ f. ⌜ f ≡ feeding.fed from (drop from (now (s .entry))) self ⌝ }
+        ensures { λ f. ⌜ Feeds (now (s .entry)) from self f ⌝ }
     {
         let start = self.progress;
         let mut store = self.store;
@@ -541,16 +534,19 @@ impl Receiver {
     }
 }
 
-// The payload of a frame that was just handed out, in the store lent here; empty where it runs past the store.
+// The payload of a frame that was just handed out, in the store lent here; empty above 507 bytes, and where it runs past the store.
 pub fn frame_payload(store: &[u8], len: usize) -> &[u8]
     ensures { λ r. ⌜ now r ≡ specs.framePayload len (now (store .entry)) ⌝ }
 {
+    if 507 < len {
+        return &store[0..0];
+    }
     wire::part_of(store, Part { start: 3, len })
 }
 
-// The record is brought up to date in place.
+// One byte: the record is brought up to date in place, and its event is given.
 pub fn receive(r: &mut Receiver, b: u8) -> Event
-    ensures { λ e. ⌜ (now (r .exit) ≡ specs.stepOf (now (r .entry)) b .receiver) × (e ≡ specs.stepOf (now (r .entry)) b .event) ⌝ }
+    ensures { λ e. ⌜ Received (now (r .entry)) b (now (r .exit)) e ⌝ }
 {
     let next = Receiver::step(*r, b);
     *r = next.receiver;

@@ -17,7 +17,7 @@ fn number(n: u64) {
     io::print_decimal(STDOUT_FILENO, n);
 }
 
-// ` frame TYPE LENGTH` or ` refused N`.
+// Prints ` frame TYPE LENGTH` or ` refused N`.
 fn show(e: Event) {
     match e {
         Event::Nothing => (),
@@ -65,7 +65,7 @@ fn code(e: Event) -> u64
     }
 }
 
-// The events so far as one number, and one event more.
+// One number for the events so far, with one event more.
 fn mixed(h: u64, e: Event) -> u64
     requires { ⌜ h < 1000000007 ⌝ }
     ensures { λ r. ⌜ r < 1000000007 ⌝ }
@@ -77,13 +77,14 @@ fn mixed(h: u64, e: Event) -> u64
     (h * 31 + c) % 1000000007
 }
 
-// The receiver after some bytes, and the events so far.
-struct Heard {
+// The receiver after some bytes, and one number for the events so far.
+struct ReceivedAll {
     receiver: Receiver,
     events: u64,
 }
 
-fn hear(r: Receiver, events: u64, s: &[u8], shown: bool) -> Heard
+// The receiver gets all bytes of a slice; its events are printed where `shown` is true.
+fn receive_all(r: Receiver, events: u64, s: &[u8], shown: bool) -> ReceivedAll
     requires { ⌜ events < 1000000007 ⌝ }
     ensures { λ h. ⌜ h .events < 1000000007 ⌝ }
 {
@@ -100,14 +101,14 @@ fn hear(r: Receiver, events: u64, s: &[u8], shown: bool) -> Heard
         progress = after;
         i = a.used;
     }
-    Heard {
+    ReceivedAll {
         receiver: Receiver { progress, store },
         events: h,
     }
 }
 
 // The events of a slice that is cut in two.
-fn hear_cut(s: &[u8], cut: usize) -> u64
+fn receive_cut(s: &[u8], cut: usize) -> u64
     requires { ⌜ cut ≤ length (now s) ⌝ }
 {
     let start = Part { start: 0, len: cut };
@@ -115,12 +116,13 @@ fn hear_cut(s: &[u8], cut: usize) -> u64
         start: cut,
         len: s.len() - cut,
     };
-    let first = hear(line::fresh(), 0, wire::part_of(s, start), false);
+    let first = receive_all(line::fresh(), 0, wire::part_of(s, start), false);
     let receiver = first.receiver;
-    let second = hear(receiver, first.events, wire::part_of(s, rest), false);
+    let second = receive_all(receiver, first.events, wire::part_of(s, rest), false);
     second.events
 }
 
+// 1 where two numbers differ, else 0.
 fn differs(a: u64, b: u64) -> u64
     ensures { λ r. ⌜ r ≤ 1 ⌝ }
 {
@@ -132,7 +134,7 @@ fn changed(s: &[u8], whole: u64) -> u64 {
     let mut n: u64 = 0;
     let mut cut = 0;
     while cut < s.len() {
-        n += differs(whole, hear_cut(s, cut));
+        n += differs(whole, receive_cut(s, cut));
         cut += 1;
     }
     n
@@ -142,7 +144,7 @@ fn changed(s: &[u8], whole: u64) -> u64 {
 fn list(name: &[u8], s: &[u8]) {
     print(name);
     print(b":");
-    let whole = hear(line::fresh(), 0, s, true);
+    let whole = receive_all(line::fresh(), 0, s, true);
     print(b"; changed by ");
     number(changed(s, whole.events));
     print(b" cuts\n");
@@ -176,6 +178,7 @@ fn list_frame(name: &[u8], wrapper: u8, payload: &[u8]) {
     }
 }
 
+// A room that is one byte too short.
 fn no_room() {
     let mut room = [0x55u8; 10];
     let payload = [0, 0, 0];

@@ -1,5 +1,5 @@
 // The line lister: reads a capture of the serial line from standard input and prints `frame TYPE LENGTH` or `refused N` for each event,
-// then `end`. Reading and writing go by way of buffers.
+// then `end`. It reads and writes by way of buffers.
 ghost use mathlib.Core.Path.{_≡_};
 ghost use Prim.Native.Nat.{_+_, _≤_, _<_};
 ghost use lib.ListN.{length};
@@ -8,7 +8,7 @@ use libc::STDOUT_FILENO;
 use line::Event;
 use line::Receiver;
 
-// One character; the place behind it is handed back, here and below.
+// One character at `at`; the place behind it is given.
 fn put(out: &mut [u8; 4096], at: usize, b: u8) -> usize
     requires { ⌜ at < 4096 ⌝ }
     ensures { λ r. ⌜ r ≡ at + 1 ⌝ }
@@ -17,7 +17,7 @@ fn put(out: &mut [u8; 4096], at: usize, b: u8) -> usize
     at + 1
 }
 
-// A piece of text.
+// A text from `from` on; the place behind it is given.
 fn text(out: &mut [u8; 4096], from: usize, s: &[u8]) -> usize
     requires { ⌜ from + length (now s) ≤ 4096 ⌝ }
     ensures { λ r. ⌜ r ≡ from + length (now (s .entry)) ⌝ }
@@ -32,8 +32,8 @@ fn text(out: &mut [u8; 4096], from: usize, s: &[u8]) -> usize
     at
 }
 
-// The first k of some digits.
-fn spell(out: &mut [u8; 4096], from: usize, digits: &[u8; 20], k: usize) -> usize
+// The first `k` of some digits from `from` on; the place behind them is given.
+fn put_digits(out: &mut [u8; 4096], from: usize, digits: &[u8; 20], k: usize) -> usize
     requires { ⌜ from ≤ 4076 ⌝ }
     ensures { λ r. ⌜ r ≤ from + 20 ⌝ }
 {
@@ -50,17 +50,17 @@ fn spell(out: &mut [u8; 4096], from: usize, digits: &[u8; 20], k: usize) -> usiz
     at
 }
 
-// A number in decimal.
+// A number in decimal at `at`; the place behind it is given.
 fn number(out: &mut [u8; 4096], at: usize, n: u64) -> usize
     requires { ⌜ at ≤ 4076 ⌝ }
     ensures { λ r. ⌜ r ≤ at + 20 ⌝ }
 {
     let mut digits = [0u8; 20];
     let k = io::decimal(n, &mut digits);
-    spell(out, at, &digits, k)
+    put_digits(out, at, &digits, k)
 }
 
-// `frame TYPE LENGTH` or `refused N`, at `at`.
+// `frame TYPE LENGTH` or `refused N` at `at`; the place behind it is given.
 fn show(out: &mut [u8; 4096], at: usize, e: Event) -> usize
     requires { ⌜ at ≤ 4000 ⌝ }
     ensures { λ r. ⌜ r ≤ 4096 ⌝ }
@@ -87,7 +87,7 @@ fn show(out: &mut [u8; 4096], at: usize, e: Event) -> usize
     }
 }
 
-// A buffer that is nearly full is written out.
+// A buffer that is nearly full is written out; the place for the next event is given.
 fn flushed(out: &[u8; 4096], at: usize) -> usize
     requires { ⌜ at ≤ 4096 ⌝ }
     ensures { λ r. ⌜ r ≤ 4000 ⌝ }
@@ -99,19 +99,21 @@ fn flushed(out: &[u8; 4096], at: usize) -> usize
     0
 }
 
+// The first `n` bytes of a slice are written out.
 fn write_out(out: &[u8], n: usize)
     requires { ⌜ n ≤ length (now out) ⌝ }
 {
     io::write_all(STDOUT_FILENO, &out[..n]);
 }
 
+// The first `n` bytes of the buffer are written out.
 fn flush(out: &[u8; 4096], n: usize)
     requires { ⌜ n ≤ 4096 ⌝ }
 {
     write_out(out, n);
 }
 
-// All of a read goes to the receiver, and each event is listed.
+// The receiver gets all bytes of a read, and each event is listed.
 fn list_read(r: Receiver, s: &[u8]) -> Receiver {
     let mut progress = r.progress;
     let mut store = r.store;
@@ -137,7 +139,7 @@ struct Turn {
     more: bool,
 }
 
-// One read, wherever it is cut.
+// One read, which may end inside a frame.
 fn read_some(r: Receiver) -> Turn {
     let mut buf = io::large_buffer();
     let got = libc::read(STDIN_FILENO, &mut buf);
@@ -155,7 +157,7 @@ fn read_some(r: Receiver) -> Turn {
     }
 }
 
-// A proved loop has to end, and nothing says that the input does: the turns are counted down, from a number that no run uses up.
+// A proved loop has to end, and nothing shows that the input does: the turns are counted down, from a number that no run uses up.
 fn list_all() {
     let mut now = line::fresh();
     let mut turns = u64::MAX;

@@ -1,2 +1,4 @@
 pub mod Reading
+pub mod Accepts
 pub mod Meaning
+pub mod Never

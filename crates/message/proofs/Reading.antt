@@ -8,7 +8,7 @@ use Rattle.wire.proofs.Rules.{judge-append, verdict-map}
 use Rattle.access.specs.declared.Mode.{Mode}
 use Rattle.control.specs.Control.{readControl, controlRules, commandAt}
 use Rattle.control.specs.declared.ControlRead.{ControlRead}
-use Rattle.control.specs.declared.ControlRead.the-variants.{Accepted as Allowed, Refused as Stopped}
+use Rattle.control.specs.declared.ControlRead.the-variants.{Accepted as ControlAccepted, Refused as ControlRefused}
 use Rattle.message.specs.Table.{Row, packet, accessOf}
 use Rattle.message.specs.Reading.{formRules, bodyRules, messageOf, readType, readBody}
 use Rattle.message.specs.declared.Form.{Form}
@@ -26,9 +26,9 @@ type-read r d f required mode l e h =
 
 -- the control reader's answer as a message
 abbrev pub ofRead : ControlRead → MessageRead
-ofRead (Allowed c) = Accepted (Control c)
-ofRead (Stopped n) = Refused n
+ofRead (ControlAccepted c) = Accepted (Control c)
+ofRead (ControlRefused n) = Refused n
 
 pub packet-read : (d : List ℕ) (f : Form) (mode : Mode) {r : ControlRead} → r ≡ readControl d mode (accessOf f) → ofRead r ≡ readBody packet d f mode
 packet-read d f mode e =
-    ap ofRead e ∙ verdict-map ofRead Stopped (firstBroken (controlRules d mode (accessOf f))) (Allowed (commandAt d))
+    ap ofRead e ∙ verdict-map ofRead ControlRefused (firstBroken (controlRules d mode (accessOf f))) (ControlAccepted (commandAt d))

@@ -1,4 +1,5 @@
 pub mod Message
 pub mod Table
 pub mod Reading
-pub mod Says
+pub mod Holds
+pub mod Accepts

@@ -1,7 +1,8 @@
--- What each message says: its data type, the numbers in its fields, and the bytes behind them. A control message says what its command says.
+-- What each message holds: its data type, the numbers in its fields, and the bytes of each part behind them; a control message what its command holds.
 use Prim.Native.Nat.{ℕ}
 use mathlib.Core.List.{List, [], _∷_}
-use Rattle.wire.specs.Fields.{partsOf}
+use Rattle.wire.specs.Content.{Content, content}
+use Rattle.wire.specs.Fields.{eachPart, partsOf}
 use Rattle.wire.specs.declared.Part.{Part}
 use Rattle.control.specs.Command.{commandNumber, commandValues, commandParts}
 use Rattle.message.specs.declared.Message.{Message}
@@ -35,7 +36,11 @@ messageParts GetMac = []
 messageParts (Control c) = commandParts c
 messageParts (HubReply f) = f .«data» ∷ []
 
--- the bytes that they name in s: the data, or a command's payload, or what a writer is lent
+-- a message's content, its parts naming bytes of the data, of a command's payload, or of what a writer is lent
+abbrev pub messageContent : Message → List ℕ → Content
+messageContent m s = content (messageType m) (messageValues m) (eachPart s (messageParts m))
+
+-- the parts' bytes, one behind the other
 abbrev pub messageBytes : Message → List ℕ → List ℕ
 messageBytes m s = partsOf s (messageParts m)
 

@@ -1,16 +1,18 @@
 -- What reading a UART message gives: data type (2), data.
 use Prim.Native.Nat.{ℕ}
+use mathlib.Core.Path.{_≡_}
 use mathlib.Core.Bool.{Bool, not, _||_}
 use mathlib.Core.List.{List, [], _∷_, _++_}
 use lib.ListN.{length, drop}
 use lib.Dec.{ltb}
 use Rattle.wire.specs.Numbers.{num}
 use Rattle.wire.specs.Rules.{Rule, _when_, judge}
-use Rattle.wire.specs.Fields.{valuesAt, widths, wrongSize, wrongFields}
+use Rattle.wire.specs.Content.{Judged, accepted, refused, Content, content}
+use Rattle.wire.specs.Fields.{valuesAt, wrongSize, wrongFields, contentBy}
 use Rattle.access.specs.declared.Mode.{Mode}
-use Rattle.control.specs.Table.{rowOf}
-use Rattle.control.specs.Control.{controlRules, commandAt}
-use Rattle.message.specs.Table.{Body, fields, packet, Row, typeOf, bare, hidden, accessOf}
+use Rattle.control.specs.Control.{controlRules, commandAt, controlContent}
+use Rattle.message.specs.Message.{messageContent, partsAt}
+use Rattle.message.specs.Table.{Body, fields, packet, Row, typeOf, plainWhereRequired, encryptedWherePlainOnly, accessOf}
 use Rattle.message.specs.declared.Form.{Form}
 use Rattle.message.specs.declared.forms.Allowed.{Allowed}
 use Rattle.message.specs.declared.Message.{Message}
@@ -21,7 +23,7 @@ use Rattle.message.specs.declared.MessageRead.the-variants.{Accepted, Re
 -- ---- the rules, in order
 -- 15: plain where encryption is required; 16: encrypted where plain only
 abbrev pub formRules : Allowed → Form → Bool → List Rule
-formRules k f required = (15 when bare k f required) ∷ (16 when hidden k f) ∷ []
+formRules k f required = (15 when plainWhereRequired k f required) ∷ (16 when encryptedWherePlainOnly k f) ∷ []
 
 -- 17: message data of wrong length or field; a control packet's 18 to 24 in its stead
 abbrev pub bodyRules : Body → Form → Mode → List ℕ → List Rule
@@ -47,18 +49,32 @@ messageAt p = messageOf (typeOf (num 2 0 p) .body) (drop 2 p)
 abbrev pub readMessage : List ℕ → Form → Bool → Mode → MessageRead
 readMessage p f required mode = judge Refused (messageRules f required mode p) (Accepted (messageAt p))
 
+-- what the tables read from a message: its data type, each number in its fields, a control packet's command before those, and each part behind them
+abbrev pub under : ℕ → Content → Content
+under n c = content n (c .number ∷ c .values) (c .parts)
+
+abbrev pub bodyContent : ℕ → Body → List ℕ → Content
+bodyContent n (fields l make) d = contentBy n l d
+bodyContent n packet d = under n (controlContent d)
+
+abbrev pub tableContent : List ℕ → Content
+tableContent p = bodyContent (num 2 0 p) (typeOf (num 2 0 p) .body) (drop 2 p)
+
+-- what an answer gives of the message: accepted with a content, or refused with a number
+abbrev pub messageAnswer : MessageRead → List ℕ → Judged Content ℕ
+messageAnswer (Accepted m) p = accepted (messageContent m (drop (partsAt m) (drop 2 p)))
+messageAnswer (Refused n) p = refused n
+
+-- the reader's promise
+pub record ReadsMessage (p : List ℕ) (f : Form) (required : Bool) (mode : Mode) (r : MessageRead) : Type 0 where
+  pub content : messageAnswer r p ≡ judge refused (messageRules f required mode p) (accepted (tableContent p))
+  -- the answer by the cases of the enum
+  pub answer : r ≡ readMessage p f required mode
+
+-- ---- what the reader's own functions give
 -- data under a row, and data alone
 abbrev pub readType : Row → List ℕ → Form → Bool → Mode → MessageRead
 readType r d f required mode = judge Refused ((14 when not (r .listed)) ∷ typeRules r f required mode d) (Accepted (messageOf (r .body) d))
 
 abbrev pub readBody : Body → List ℕ → Form → Mode → MessageRead
 readBody b d f mode = judge Refused (bodyRules b f mode d) (Accepted (messageOf b d))
-
--- ---- what the tables read from data: every number in its fields, a control packet's command first, and the bytes behind them
-abbrev pub tableValues : Body → List ℕ → List ℕ
-tableValues (fields l make) d = valuesAt (l .fields) 0 d
-tableValues packet d = num 2 1 d ∷ valuesAt (rowOf (num 2 1 d) .payload .fields) 0 (drop 5 d)
-
-abbrev pub tableBytes : Body → List ℕ → List ℕ
-tableBytes (fields l make) d = drop (widths (l .fields)) d
-tableBytes packet d = drop (widths (rowOf (num 2 1 d) .payload .fields)) (drop 5 d)

@@ -5,7 +5,7 @@ use mathlib.Core.List.{List, [], _∷_}
 use lib.ListN.{getD}
 use Rattle.wire.specs.Lookup.{lookup}
 use Rattle.wire.specs.Parts.{part}
-use Rattle.wire.specs.Fields.{Layout, layout, exactly, atLeast, any, upTo, free}
+use Rattle.wire.specs.Fields.{Layout, layout, exactly, atLeast, any, upTo, nothing, free}
 use Rattle.access.specs.declared.Access.{Access}
 use Rattle.access.specs.declared.Access.the-variants.{Plain as PlainAccess, Keyed}
 use Rattle.access.specs.declared.Level.the-variants.{Admin}
@@ -18,18 +18,18 @@ use Rattle.message.specs.declared.Message.the-variants.{Hello, SessionNo
 
 -- ---- forms
 -- plain where encryption is required
-abbrev pub bare : Allowed → Form → Bool → Bool
-bare PlainOnly f required = false
-bare Either f required = false
-bare EncryptedWhenRequired Plain required = required
-bare EncryptedWhenRequired Encrypted required = false
+abbrev pub plainWhereRequired : Allowed → Form → Bool → Bool
+plainWhereRequired PlainOnly f required = false
+plainWhereRequired Either f required = false
+plainWhereRequired EncryptedWhenRequired Plain required = required
+plainWhereRequired EncryptedWhenRequired Encrypted required = false
 
 -- encrypted where plain only
-abbrev pub hidden : Allowed → Form → Bool
-hidden PlainOnly Plain = false
-hidden PlainOnly Encrypted = true
-hidden Either f = false
-hidden EncryptedWhenRequired f = false
+abbrev pub encryptedWherePlainOnly : Allowed → Form → Bool
+encryptedWherePlainOnly PlainOnly Plain = false
+encryptedWherePlainOnly PlainOnly Encrypted = true
+encryptedWherePlainOnly Either f = false
+encryptedWherePlainOnly EncryptedWhenRequired f = false
 
 -- a message's level is admin
 abbrev pub accessOf : Form → Access
@@ -54,13 +54,13 @@ row n k b = record { listed = true; number = n; allowed = k; body = b }
 -- flags: bits 4 to 7 zero
 abbrev pub table : List Row
 table =
-    row 0 PlainOnly (fields (layout (exactly 1) (upTo 1 15 ∷ []) free) (λ v n. Hello (getD v 0 0)))
-    ∷ row 1 PlainOnly (fields (layout (exactly 6) (any 1 ∷ any 1 ∷ any 1 ∷ any 1 ∷ any 1 ∷ any 1 ∷ []) free)
+    row 0 PlainOnly (fields (layout (exactly 1) (upTo 1 15 ∷ []) nothing) (λ v n. Hello (getD v 0 0)))
+    ∷ row 1 PlainOnly (fields (layout (exactly 6) (any 1 ∷ any 1 ∷ any 1 ∷ any 1 ∷ any 1 ∷ any 1 ∷ []) nothing)
     (λ v n. SessionNonce (record { timeout = record { 0 = getD v 0 0 }; nonce = record { 0 = getD v 1 0; 1 = getD v 2 0; 2 = getD v 3 0; 3 = getD v 4 0; 4 = getD v 5 0 } })))
-    ∷ row 2 Either (fields (layout (exactly 2) (any 2 ∷ []) free) (λ v n. Heartbeat (record { 0 = getD v 0 0 })))
+    ∷ row 2 Either (fields (layout (exactly 2) (any 2 ∷ []) nothing) (λ v n. Heartbeat (record { 0 = getD v 0 0 })))
     ∷ row 3 Either (fields (layout (exactly 11) (upTo 1 1 ∷ upTo 1 15 ∷ []) free)
     (λ v n. Status (record { kind = getD v 0 0; flags = getD v 1 0; «data» = part 2 9 })))
-    ∷ row 4 PlainOnly (fields (layout (exactly 0) [] free) (λ v n. GetMac))
+    ∷ row 4 PlainOnly (fields (layout (exactly 0) [] nothing) (λ v n. GetMac))
     ∷ row 10 EncryptedWhenRequired packet
     ∷ row 11 Either (fields (layout (atLeast 2) (any 2 ∷ []) free) (λ v n. HubReply (record { code = getD v 0 0; «data» = part 2 (n - 2) })))
     ∷ []

@@ -1,6 +1,6 @@
-// UART messages: what they say, and their reader.
+// UART messages and their reader.
 mod bodies;
-pub mod forms;
+mod forms;
 
 use crate::forms::Allowed;
 use crate::forms::in_form;
@@ -12,7 +12,7 @@ use wire::Part;
 ghost use mathlib.Core.Path.{_≡_};
 ghost use Rattle.message.specs.Message.{partsAt};
 ghost use Rattle.message.specs.Table.{typeOf};
-ghost use Rattle.message.specs.Reading.{readMessage, readType};
+ghost use Rattle.message.specs.Reading.{ReadsMessage, readType};
 
 // How a message comes.
 pub enum Form {
@@ -71,9 +71,9 @@ pub fn parts_at(m: Message) -> usize
     }
 }
 
-// A message in its form, in a mode: 14 to 17, for a control packet 18 to 24, or what it says.
+// A message in its form, in a mode: 14 to 17, for a control packet 18 to 24, or the message.
 pub fn read_message(message: &[u8], form: Form, required: bool, mode: Mode) -> MessageRead
-    ensures { λ r. ⌜ r ≡ readMessage (now (message .entry)) form required mode ⌝ }
+    ensures { λ r. ⌜ ReadsMessage (now (message .entry)) form required mode r ⌝ }
 {
     if message.len() < 2 {
         return MessageRead::Refused(14);

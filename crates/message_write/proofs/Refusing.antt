@@ -13,7 +13,7 @@ use Rattle.wire.specs.declared.Written.{Written}
 use Rattle.wire.specs.declared.Written.the-variants.{Refused}
 use Rattle.wire.proofs.Writers.{writes-bad, writes-good}
 use Rattle.control.specs.declared.Command.{Command}
-use Rattle.control_write.specs.Image.{payloadOf, controlImage, commandBad, badWithin}
+use Rattle.control_write.specs.Image.{payloadImage, controlImage, commandBad, badWithin}
 use Rattle.message.specs.declared.Message.the-variants.{Control}
 use Rattle.message_write.specs.Image.{messageBad}
 
@@ -34,4 +34,4 @@ seven false q n e h = le-ltb 507 n (omega (arith, ltb-false 500 (length q) h))
 
 pub control-within : (c : Command) (s : List ℕ) → messageBad (Control c) s ≡ badWithin 500 c s
 control-within c s =
-    ap (λ (b : Bool). commandBad c s || b) (seven (ltb 500 (length (payloadOf c s))) (payloadOf c s) (length (le 2 10 ++ controlImage c s)) (omega arith) refl)
+    ap (λ (b : Bool). commandBad c s || b) (seven (ltb 500 (length (payloadImage c s))) (payloadImage c s) (length (le 2 10 ++ controlImage c s)) (omega arith) refl)

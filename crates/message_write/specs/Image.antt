@@ -44,7 +44,7 @@ dataBad packet m s = ifControl m (λ c. commandBad c s) true
 abbrev pub messageImage : Message → List ℕ → List ℕ
 messageImage m s = le 2 (messageType m) ++ dataOf (bodyFor m) m s
 
--- or a message above 507 bytes
+-- 17: data that its reader would refuse, or a message above 507 bytes
 abbrev pub messageBad : Message → List ℕ → Bool
 messageBad m s = dataBad (bodyFor m) m s || ltb 507 (length (messageImage m s))
 

@@ -55,7 +55,7 @@ pub fn heartbeat(timeout: Seconds, bytes: &[u8], out: &mut [u8]) -> Written
     if 65535 < timeout.0 {
         return Written::Refused(17);
     }
-    let fields = [(timeout.0 % 256) as u8, (timeout.0 / 256) as u8];
+    let fields = wire::u16_bytes(timeout.0 as u16);
     typed(2, &fields, &bytes[0..0], out)
 }
 

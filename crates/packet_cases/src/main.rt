@@ -1,6 +1,6 @@
-// Reads the packets and messages that standard input lists, and tells what comes of each; then what the writers make of a few.
+// Reads the packets and messages that standard input lists, and prints what comes of each; then what the writers make of a few.
+mod print;
 mod readers;
-mod say;
 mod text;
 mod writers;
 
@@ -33,9 +33,9 @@ fn lines(s: &[u8]) {
 // `LABEL: KIND..`: the label again, and what comes of the rest.
 fn case(line: &[u8]) {
     let end = text::find(line, 0, b':');
-    say::text(text::between(line, 0, end));
-    say::text(b": ");
+    print::text(text::between(line, 0, end));
+    print::text(b": ");
     let rest = text::between(line, end, line.len());
     readers::case(wire::byte_at(rest, 2), rest);
-    say::text(b"\n");
+    print::text(b"\n");
 }

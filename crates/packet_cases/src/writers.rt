@@ -1,5 +1,5 @@
 // What the writers refuse, and the lengths of what they write. Each case lends so many bytes and so much room.
-use crate::say;
+use crate::print;
 use crate::text;
 use control::Command;
 use control::MultiSwitchFields;
@@ -22,14 +22,14 @@ const MOST: usize = 65542;
 fn packet(label: &[u8], c: Command, byte: u8, lent: usize, room: usize) {
     let bytes = [byte; 65536];
     let mut out = [0u8; 65542];
-    say::text(label);
+    print::text(label);
     packet_in(c, &bytes, lent, &mut out, room);
-    say::text(b"\n");
+    print::text(b"\n");
 }
 
 fn packet_in(c: Command, bytes: &[u8], lent: usize, out: &mut [u8], room: usize) {
     if room <= out.len() {
-        say::written(control_write::write_control(
+        print::written(control_write::write_control(
             c,
             text::between(bytes, 0, lent),
             &mut out[..room],
@@ -40,23 +40,23 @@ fn packet_in(c: Command, bytes: &[u8], lent: usize, out: &mut [u8], room: usize)
 fn message(label: &[u8], m: Message, room: usize) {
     let bytes = [0u8; 600];
     let mut out = [0u8; 600];
-    say::text(label);
+    print::text(label);
     message_in(m, &bytes, &mut out, room);
-    say::text(b"\n");
+    print::text(b"\n");
 }
 
 fn message_in(m: Message, bytes: &[u8], out: &mut [u8], room: usize) {
     if room <= out.len() {
-        say::written(message_write::write_message(m, bytes, &mut out[..room]));
+        print::written(message_write::write_message(m, bytes, &mut out[..room]));
     }
 }
 
 fn result(label: &[u8], len: usize, lent: usize, room: usize) {
     let bytes = [0u8; 65536];
     let mut out = [0u8; 65542];
-    say::text(label);
+    print::text(label);
     result_in(len, &bytes, lent, &mut out, room);
-    say::text(b"\n");
+    print::text(b"\n");
 }
 
 fn result_in(len: usize, bytes: &[u8], lent: usize, out: &mut [u8], room: usize) {
@@ -66,7 +66,7 @@ fn result_in(len: usize, bytes: &[u8], lent: usize, out: &mut [u8], room: usize)
         payload: Part { start: 0, len },
     };
     if room <= out.len() {
-        say::written(result::write_result(r, text::between(bytes, 0, lent), &mut out[..room]));
+        print::written(result::write_result(r, text::between(bytes, 0, lent), &mut out[..room]));
     }
 }
 

@@ -1,5 +1,5 @@
 // The opener of characteristic packets.
-use crate::say;
+use crate::print;
 use crate::sealed;
 use crate::uart;
 use access::Mode;
@@ -35,14 +35,18 @@ fn unconnected() -> Link {
     link(Connection::none(), uart::all_keys(), Mode::Normal)
 }
 
-// One line: the label, the answer, the work buffer.
+// One line: the label, the answer, the work buffer, the connection session after it.
 fn packet(label: &[u8], packet: &[u8], link: Link, work: &mut [u8]) {
-    say::text(b"characteristic, ");
-    say::text(label);
-    let answer = bridge::characteristic::open(packet, link, work);
-    say::command_answer(answer, packet, work);
-    say::work(packet, work);
-    say::text(b"\n");
+    print::text(b"characteristic, ");
+    print::text(label);
+    let opened = bridge::characteristic::open(packet, link, work);
+    let answer = opened.answer;
+    print::command_answer(answer, packet, work);
+    print::work(packet, work);
+    let before = link.connection;
+    let after = opened.connection;
+    print::connection(before, after);
+    print::text(b"\n");
 }
 
 fn opened(label: &[u8], key: [u8; 16], level: u8, text: &[u8], link: Link, work: &mut [u8]) {

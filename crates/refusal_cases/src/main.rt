@@ -1,7 +1,7 @@
 // Every refusal of the opener on both routes with its reply, the order of two broken rules, the work buffer and the session afterwards.
 // Messages are enciphered here from their blocks as they are to be deciphered, right or wrong.
 mod characteristic;
-mod say;
+mod print;
 mod sealed;
 mod uart;
 

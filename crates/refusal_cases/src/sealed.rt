@@ -1,7 +1,7 @@
 // The opener of frames: encrypted messages. 22 does not occur there: the admin has a mark wherever normal mode has one.
 use crate::uart;
 use access::Mode;
-use bridge::Setting;
+use bridge::Context;
 use session::Session;
 use wire::Part;
 use wire::Written;
@@ -37,15 +37,15 @@ fn other_heartbeat() -> [u8; 16] {
     *b"\xbf\xba\xfe\xca\x04\x00\x02\x00\x2c\x01\x00\x00\x00\x00\x00\x00"
 }
 
-fn opened(label: &[u8], id: u8, text: &[u8], setting: Setting, work: &mut [u8]) {
+fn opened(label: &[u8], id: u8, text: &[u8], context: Context, work: &mut [u8]) {
     let mut room = [0u8; 512];
     let n = encipher(uart::admin(), session_nonce(), id, text, &mut room);
-    uart::frame(label, 1, 128, front(&room, n), setting, work);
+    uart::frame(label, 1, 128, front(&room, n), context, work);
 }
 
-fn sealed_in(label: &[u8], id: u8, text: &[u8], setting: Setting) {
+fn sealed_in(label: &[u8], id: u8, text: &[u8], context: Context) {
     let mut work = [0xEEu8; 40];
-    opened(label, id, text, setting, &mut work);
+    opened(label, id, text, context, &mut work);
 }
 
 fn sealed(label: &[u8], text: &[u8]) {
@@ -67,9 +67,9 @@ fn unsealed_short(label: &[u8], len: usize) {
     unsealed_in(label, len, &mut work);
 }
 
-fn heartbeat_in(label: &[u8], id: u8, setting: Setting) {
+fn heartbeat_in(label: &[u8], id: u8, context: Context) {
     let text = heartbeat();
-    sealed_in(label, id, &text, setting);
+    sealed_in(label, id, &text, context);
 }
 
 fn heartbeat_short(label: &[u8], id: u8) {
@@ -84,9 +84,9 @@ fn heartbeat_exact(label: &[u8], id: u8) {
     opened(label, id, &text, uart::normal(), &mut work);
 }
 
-fn other_heartbeat_in(label: &[u8], setting: Setting) {
+fn other_heartbeat_in(label: &[u8], context: Context) {
     let text = other_heartbeat();
-    sealed_in(label, 0, &text, setting);
+    sealed_in(label, 0, &text, context);
 }
 
 // The longest message, by the sealer.
@@ -123,8 +123,8 @@ pub fn lengths() {
     longest();
 }
 
-fn setting_at(session: Session, time: u64) -> Setting {
-    uart::setting_at(session, time, uart::all_keys())
+fn context_at(session: Session, time: u64) -> Context {
+    uart::context_at(session, time, uart::all_keys())
 }
 
 pub fn keys() {
@@ -132,41 +132,41 @@ pub fn keys() {
     heartbeat_short(b"room of 15, key ID 1", 1);
     heartbeat_exact(b"room of 16", 0);
     heartbeat_in(b"key ID 1", 1, uart::normal());
-    let no_keys = uart::setting_at(uart::minute(), 159, uart::no_keys());
+    let no_keys = uart::context_at(uart::minute(), 159, uart::no_keys());
     heartbeat_in(b"no admin key", 0, no_keys);
     heartbeat_in(b"setup mode", 0, uart::setup_mode());
-    heartbeat_in(b"key ID 1, no session", 1, setting_at(Session::none(), 159));
+    heartbeat_in(b"key ID 1, no session", 1, context_at(Session::none(), 159));
 }
 
 pub fn sessions() {
-    heartbeat_in(b"no session", 0, setting_at(Session::none(), 159));
+    heartbeat_in(b"no session", 0, context_at(Session::none(), 159));
     other_heartbeat_in(
         b"no session, validation differs",
-        setting_at(Session::none(), 159),
+        context_at(Session::none(), 159),
     );
     heartbeat_in(
         b"set at 100, 1 minute, at 99",
         0,
-        setting_at(uart::minute(), 99),
+        context_at(uart::minute(), 99),
     );
     heartbeat_in(
         b"set at 100, 1 minute, at 100",
         0,
-        setting_at(uart::minute(), 100),
+        context_at(uart::minute(), 100),
     );
     heartbeat_in(
         b"set at 100, 1 minute, at 159",
         0,
-        setting_at(uart::minute(), 159),
+        context_at(uart::minute(), 159),
     );
     heartbeat_in(
         b"set at 100, 1 minute, at 160",
         0,
-        setting_at(uart::minute(), 160),
+        context_at(uart::minute(), 160),
     );
     other_heartbeat_in(
         b"run out, validation differs",
-        setting_at(uart::minute(), 160),
+        context_at(uart::minute(), 160),
     );
 }
 
@@ -267,12 +267,12 @@ pub fn messages() {
     );
 }
 
-fn switch_in(label: &[u8], setting: Setting) {
+fn switch_in(label: &[u8], context: Context) {
     sealed_in(
         label,
         0,
         b"\xbe\xba\xfe\xca\x08\x00\x0a\x00\x05\x14\x00\x01\x00\x64\x00\x00",
-        setting,
+        context,
     );
 }
 

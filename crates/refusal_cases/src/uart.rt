@@ -1,7 +1,7 @@
 // The opener of frames: what every case shares, and the plain cases.
-use crate::say;
+use crate::print;
 use access::Mode;
-use bridge::Setting;
+use bridge::Context;
 use session::Key;
 use session::Keys;
 use session::Session;
@@ -57,8 +57,8 @@ pub fn minute() -> Session {
 }
 
 // Normal mode, encryption not required.
-pub fn setting_at(session: Session, time: u64, keys: Keys) -> Setting {
-    Setting {
+pub fn context_at(session: Session, time: u64, keys: Keys) -> Context {
+    Context {
         session,
         time: Seconds(time),
         keys,
@@ -68,12 +68,12 @@ pub fn setting_at(session: Session, time: u64, keys: Keys) -> Setting {
 }
 
 // The last second of that session.
-pub fn normal() -> Setting {
-    setting_at(minute(), 159, all_keys())
+pub fn normal() -> Context {
+    context_at(minute(), 159, all_keys())
 }
 
-pub fn setup_mode() -> Setting {
-    Setting {
+pub fn setup_mode() -> Context {
+    Context {
         session: minute(),
         time: Seconds(159),
         keys: all_keys(),
@@ -82,8 +82,8 @@ pub fn setup_mode() -> Setting {
     }
 }
 
-pub fn required() -> Setting {
-    Setting {
+pub fn required() -> Context {
+    Context {
         session: minute(),
         time: Seconds(159),
         keys: all_keys(),
@@ -98,23 +98,23 @@ pub fn frame(
     major: u8,
     wrapper: u8,
     payload: &[u8],
-    setting: Setting,
+    context: Context,
     work: &mut [u8],
 ) {
-    say::text(label);
-    let opened = bridge::uart::open(major, 3, wrapper, payload, setting, work);
+    print::text(label);
+    let opened = bridge::uart::open(major, 3, wrapper, payload, context, work);
     let answer = opened.answer;
-    say::answer(answer, payload, work);
-    say::work(payload, work);
-    let before = setting.session;
+    print::answer(answer, payload, work);
+    print::work(payload, work);
+    let before = context.session;
     let after = opened.session;
-    say::session(before, after);
-    say::text(b"\n");
+    print::session(before, after);
+    print::text(b"\n");
 }
 
-fn plain_in(label: &[u8], payload: &[u8], setting: Setting) {
+fn plain_in(label: &[u8], payload: &[u8], context: Context) {
     let mut work = [0xEEu8; 40];
-    frame(label, 1, 0, payload, setting, &mut work);
+    frame(label, 1, 0, payload, context, &mut work);
 }
 
 fn plain(label: &[u8], payload: &[u8]) {
@@ -243,17 +243,17 @@ pub fn sessions() {
     plain_in(
         b"plain session nonce, no session",
         nonce,
-        setting_at(Session::none(), 7, no_keys()),
+        context_at(Session::none(), 7, no_keys()),
     );
     plain_in(
         b"plain session nonce, run out",
         nonce,
-        setting_at(minute(), 160, all_keys()),
+        context_at(minute(), 160, all_keys()),
     );
     plain_in(b"plain session nonce, setup mode", nonce, setup_mode());
     plain_in(
         b"plain heartbeat, run out",
         b"\x02\x00\x2c\x01",
-        setting_at(minute(), 160, all_keys()),
+        context_at(minute(), 160, all_keys()),
     );
 }

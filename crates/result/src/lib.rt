@@ -3,7 +3,7 @@ use wire::Part;
 use wire::Written;
 ghost use mathlib.Core.Path.{_≡_};
 ghost use Rattle.wire.specs.Writing.{Writes};
-ghost use Rattle.result.specs.Result.{outcomeOf, readResult, resultBad, resultImage};
+ghost use Rattle.result.specs.Result.{outcomeOf, ReadsResult, resultBad, resultImage};
 
 // The command that is answered, its result code, and the payload as a part of the packet, or of the bytes lent to the writer.
 pub struct ResultPacket {
@@ -21,7 +21,7 @@ pub enum ResultRead {
 }
 
 // What a result's code means.
-pub fn outcome_of(result: ResultPacket) -> ResultRead
+fn outcome_of(result: ResultPacket) -> ResultRead
     ensures { λ r. ⌜ r ≡ outcomeOf result ⌝ }
 {
     let code = result.code;
@@ -35,7 +35,7 @@ pub fn outcome_of(result: ResultPacket) -> ResultRead
 
 // A result packet: 18, 19, or what came of the command.
 pub fn read_result(packet: &[u8]) -> ResultRead
-    ensures { λ r. ⌜ r ≡ readResult (now (packet .entry)) ⌝ }
+    ensures { λ r. ⌜ ReadsResult (now (packet .entry)) r ⌝ }
 {
     if packet.len() < 7 {
         return ResultRead::Refused(18);
@@ -64,18 +64,20 @@ pub fn write_result(result: ResultPacket, bytes: &[u8], out: &mut [u8]) -> Writt
     if wire::layouts::runs_past(bytes, payload) {
         return Written::Refused(17);
     }
-    let size = payload.len;
-    if 65535 < size {
+    if 65535 < payload.len {
         return Written::Refused(17);
     }
+    let command = wire::u16_bytes(result.command);
+    let code = wire::u16_bytes(result.code);
+    let size = wire::u16_bytes(payload.len as u16);
     let head = [
         5,
-        (result.command % 256) as u8,
-        (result.command / 256) as u8,
-        (result.code % 256) as u8,
-        (result.code / 256) as u8,
-        (size % 256) as u8,
-        (size / 256) as u8,
+        command[0],
+        command[1],
+        code[0],
+        code[1],
+        size[0],
+        size[1],
     ];
     wire::write3(&head, &bytes[0..0], wire::part_of(bytes, payload), out)
 }

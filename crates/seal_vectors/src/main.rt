@@ -105,7 +105,7 @@ fn opens(key: Key, image: &[u8], message: &[u8]) -> bool {
     check::same(envelope::message_in(text), message)
 }
 
-// The same for a characteristic packet.
+// Whether a characteristic image is opened, and holds the packet.
 fn opens_packet(key: Key, image: &[u8], packet: &[u8]) -> bool {
     let mut work = [0xFFu8; 496];
     let len = deciphered(key, image, &mut work);

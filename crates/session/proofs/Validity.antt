@@ -1,12 +1,11 @@
 -- A session's validity: the test in whole minutes, the numbers it stands for, and document 01's example. Assumes nothing.
 use mathlib.Core.Path.{_≡_, refl, sym, _∙_}
-use mathlib.Core.Bool.{Bool, true, false}
+use mathlib.Core.Bool.{Bool, true, false, _&&_}
 use mathlib.Core.List.{[], _∷_}
 use Prim.Native.Nat.{ℕ, _-_, _*_, _/_, _≤_, _<_}
 use native.Mathlib.Omega.{arith}
-use lib.Dec.{leb, ltb}
-use borrow.Author.Tests.{leb-true, ltb-true, ltb-false, le-leb, lt-leb, lt-ltb, le-ltb}
-use Rattle.wire.proofs.Choice.{and-holds}
+use lib.Dec.{ltb}
+use borrow.Author.Tests.{ltb-true, ltb-false, le-leb, lt-leb, lt-ltb, le-ltb}
 use Rattle.units.specs.declared.Seconds.{Seconds}
 use Rattle.session.specs.declared.Session.{Session}
 use Rattle.session.specs.Session.{noSession, withNonce, validAt}
@@ -23,26 +22,28 @@ whole-minutes x t = by (ltb (x / 60) t) refl
         let h : t ≤ x / 60 = ltb-false _ _ e in
         e ∙ sym (le-ltb x (60 * t) (omega arith))
 
+and-false : (a : Bool) → (a && false) ≡ false
+and-false true = refl
+and-false false = refl
+
+and-true : (a : Bool) → (a && true) ≡ a
+and-true true = refl
+and-true false = refl
+
 module _ (s : Session) (now : Seconds) where
   -- a clock behind the set time counts as run out
   pub behind : now .0 < s .since .0 → false ≡ validAt s now
   unfolding validAt
-  behind h = rw (lt-leb _ _ h)
+  behind h = rw (lt-leb _ _ h) (sym (and-false (s .held)))
 
-  pub not-behind : s .since .0 ≤ now .0 → ltb ((now .0 - s .since .0) / 60) (s .timeout .0) ≡ validAt s now
+  -- the test in whole minutes: it decides, and then whether there is a session
+  pub run-out : s .since .0 ≤ now .0 → s .timeout .0 ≤ (now .0 - s .since .0) / 60 → false ≡ validAt s now
   unfolding validAt
-  not-behind h = rw (le-leb _ _ h) (whole-minutes (now .0 - s .since .0) (s .timeout .0))
+  run-out h k = rw (le-leb _ _ h, ← whole-minutes (now .0 - s .since .0) (s .timeout .0), le-ltb _ _ k) (sym (and-false (s .held)))
 
-  -- what validity says, and what makes it
-  pub valid-means : validAt s now ≡ true → (s .since .0 ≤ now .0) × (now .0 - s .since .0 < 60 * s .timeout .0)
+  pub not-run-out : s .since .0 ≤ now .0 → (now .0 - s .since .0) / 60 < s .timeout .0 → s .held ≡ validAt s now
   unfolding validAt
-  valid-means e =
-      let a = and-holds (leb (s .since .0) (now .0)) (ltb (now .0 - s .since .0) (60 * s .timeout .0)) e in
-      (leb-true _ _ (a .0), ltb-true _ _ (a .1))
-
-  pub valid-when : s .since .0 ≤ now .0 → now .0 - s .since .0 < 60 * s .timeout .0 → validAt s now ≡ true
-  unfolding validAt
-  valid-when h k = rw (le-leb _ _ h, lt-ltb _ _ k)
+  not-run-out h k = rw (le-leb _ _ h, ← whole-minutes (now .0 - s .since .0) (s .timeout .0), lt-ltb _ _ k) (sym (and-true (s .held)))
 
 -- ---- set at 100, 1 minute
 abbrev set-at-100 : Session

@@ -26,11 +26,11 @@ keyFor k SetupMode Member = noKey
 keyFor k SetupMode Basic = noKey
 keyFor k SetupMode Setup = k .setup
 
--- the same for a level that was read
+-- the key that serves a level that was read in a mode, no key where none was
 abbrev pub keyForRead : Keys → Mode → LevelRead → Key
 keyForRead k m (Known l) = keyFor k m l
 keyForRead k m Unknown = noKey
 
--- for a level's number: no key where no level has it
+-- the key that serves the level with a number in a mode, no key where no level has it
 abbrev pub keyForNumber : Keys → Mode → ℕ → Key
 keyForNumber k m n = keyForRead k m (levelOf n)

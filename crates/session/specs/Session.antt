@@ -1,4 +1,4 @@
--- Document 01, 'Cipher and session': a session goes in and the session after it comes back.
+-- Document 01, 'Cipher and session': the user's session and the connection's.
 use Prim.Native.Nat.{ℕ, _-_, _*_, _/_}
 use mathlib.Core.Bool.{Bool, true, false, _&&_}
 use mathlib.Core.List.{List}
@@ -17,9 +17,9 @@ noSession =
 abbrev pub withNonce : Session → List ℕ → Minutes → Seconds → Session
 withNonce s nonce timeout now = record { held = true; nonce = nonce; timeout = timeout; since = now }
 
--- now is at least the set time, and now minus set time is below 60 times the timeout
+-- there is a session, now is at least the set time, and now minus set time is below 60 times the timeout
 unfoldable pub validAt : Session → Seconds → Bool
-validAt s now = leb (s .since .0) (now .0) && ltb (now .0 - s .since .0) (60 * s .timeout .0)
+validAt s now = s .held && (leb (s .since .0) (now .0) && ltb (now .0 - s .since .0) (60 * s .timeout .0))
 
 -- minutes that have passed whole
 abbrev pub wholeMinutes : Seconds → Minutes

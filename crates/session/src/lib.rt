@@ -67,7 +67,7 @@ impl Session {
         }
     }
 
-    // Whether it has not run out. Whether there is one is another question.
+    // Whether there is a session that has not run out.
     pub fn valid_at(self, now: Seconds) -> bool
         ensures { λ r. ⌜ r ≡ validAt self now ⌝ }
     {
@@ -77,7 +77,10 @@ impl Session {
             return false;
         }
         let passed = whole_minutes(Seconds(now.0 - since.0));
-        passed.0 < timeout.0
+        if passed.0 < timeout.0 {
+            return self.held;
+        }
+        false
     }
 }
 
@@ -149,7 +152,7 @@ impl Keys {
         }
     }
 
-    // The same for a level's number, as it stands in a packet.
+    // The key that serves the level with a number in a mode, not held where none does.
     pub fn serving_number(self, mode: Mode, number: u8) -> Key
         ensures { λ r. ⌜ r ≡ keyForNumber self mode number ⌝ }
     {

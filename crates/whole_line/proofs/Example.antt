@@ -5,12 +5,14 @@ use mathlib.Core.List.{List, [], _∷_, _++_, zipWith}
 use Prim.Native.Nat.{ℕ, _+_, _*_, _≤_}
 use native.Mathlib.Omega.{arith}
 use lib.ListN.{replicate}
+use Rattle.wire.specs.Content.{Judged, accepted, Content, content}
 use Rattle.wire.specs.Parts.{partOf}
+use Rattle.message.specs.Reading.{tableContent}
 use Rattle.crc.specs.Crc.{crcFrom, crcByte, crcBit}
 use Rattle.frame.specs.Image.{escape, escapeByte, isMark}
-use Rattle.line.specs.Receive.{stepOf, busy, inFrame, unescaped, taken, stored, sized, finished, reading, holding}
+use Rattle.line.specs.Receive.{stepOf, busy, inFrame, unescaped, taken, stored, sized, reading, holding}
 use Rattle.line.specs.Line as line
-use Rattle.line.specs.Line.{refusal, frame, run, after}
+use Rattle.line.specs.Line.{refusal, frame, frameGives, valueGives, escapedGives, insideGives, gives, run, after}
 use Rattle.line.specs.declared.Receiver.{Receiver}
 use Rattle.access.specs.declared.Mode.the-variants.{Normal}
 use Rattle.session.specs.Session.{validAt}
@@ -22,16 +24,16 @@ use Rattle.aes.specs.Ctr.{counterBlock, keystream, ctrOf}
 use Rattle.envelope.specs.Blocks.{blocksIn, enveloped}
 use Rattle.envelope.specs.Sealed.{sealedImage, plainText}
 use Rattle.envelope.proofs.Unsealed.{sealed-blocks}
-use Rattle.bridge.specs.Opener.{plainRules, openRules, answerOf, opened, workAfter}
-use Rattle.bridge.specs.Place.{payloadOf}
-use Rattle.bridge.specs.declared.Setting.{Setting}
-use Rattle.whole_line.specs.Told.{Told, toldOf, says}
-use Rattle.whole_line.specs.Listed.{Item, plain, sealed, messageOf, Sent, items, Made, wrapped, lineOf, Occasion, Ready, Opening, openings, AllGive}
+use Rattle.bridge.specs.Opener.{plainRules, uartOpenRules, answerOf, opened, workAfter}
+use Rattle.bridge.specs.Place.{payloadAt}
+use Rattle.bridge.specs.Content.{Given, answerContent}
+use Rattle.bridge.specs.declared.Context.{Context}
+use Rattle.whole_line.specs.Listed.{Item, plain, sealed, itemMessage, SentItem, items, Made, wrapped, lineOf, Occasion, Ready, Opening, openings, AllGive}
 use Rattle.whole_line.specs.Claim.{Read}
 use Rattle.whole_line.proofs.OneWay.{no-line-two-ways}
 
 -- encryption is required; the session was set at 100, for one minute
-abbrev pub g : Setting
+abbrev pub g : Context
 g =
     record {
       session = record { held = true; nonce = 0x7E ∷ 0x5C ∷ 0x40 ∷ 1 ∷ 2 ∷ []; timeout = record { 0 = 1 }; since = record { 0 = 100 } };
@@ -57,14 +59,14 @@ switch = 10 ∷ 0 ∷ 5 ∷ 20 ∷ 0 ∷ 1 ∷ 0 ∷ 100 ∷ []
 abbrev pub reply : List ℕ
 reply = 11 ∷ 0 ∷ 1 ∷ 0 ∷ 0x7E ∷ 0x5C ∷ []
 
-abbrev pub first : Sent
-first = record { item = plain hello; strewn = 0x5C ∷ 0x5C ∷ 0x41 ∷ [] }
+abbrev pub first : SentItem
+first = record { item = plain hello; noise = 0x5C ∷ 0x5C ∷ 0x41 ∷ [] }
 
-abbrev pub second : Sent
-second = record { item = plain reply; strewn = [] }
+abbrev pub second : SentItem
+second = record { item = plain reply; noise = [] }
 
-abbrev pub third : Sent
-third = record { item = sealed (0x7E ∷ 8 ∷ 9 ∷ []) switch; strewn = 0 ∷ [] }
+abbrev pub third : SentItem
+third = record { item = sealed (0x7E ∷ 8 ∷ 9 ∷ []) switch; noise = 0 ∷ [] }
 
 -- inside a frame, after 5 of its 20 bytes; two more come before the line
 abbrev pub caught : Receiver
@@ -103,11 +105,11 @@ ready : Ready g at 0 (items (first ∷ second ∷ third ∷ []))
 unfolding validAt
 ready = (tt, (tt, ((refl, room), tt)))
 
-abbrev toldIn : List Item → List Told
-toldIn [] = []
-toldIn (i ∷ is) = toldOf (messageOf i) ∷ toldIn is
+abbrev itemContents : List Item → List (Judged Content Given)
+itemContents [] = []
+itemContents (i ∷ is) = accepted (tableContent (itemMessage i)) ∷ itemContents is
 
--- what the claim says of it
+-- the claim for it
 pub reads : Read g (first ∷ second ∷ third ∷ []) (after before caught) at
 reads = no-line-two-ways g .read first (second ∷ third ∷ []) made before caught refl at ready
 
@@ -124,7 +126,7 @@ sealed-is = refl
 abbrev lineWith : List ℕ → List ℕ
 lineWith p =
     line.lineOf
-    (record { wrapper = 0; payload = hello; noise = first .strewn }
+    (record { wrapper = 0; payload = hello; noise = first .noise }
     ∷ record { wrapper = 0; payload = reply; noise = [] }
     ∷ record { wrapper = 128; payload = p; noise = 0 ∷ [] }
     ∷ [])
@@ -139,35 +141,32 @@ unfolding line.lineOf escape escapeByte isMark crcFrom crcByte crcBit
 on-line = ap lineWith sealed-is
 
 -- 1 comes first, at the start byte; then the three frames
-pub heard : run (before ++ lineOf g (first ∷ second ∷ third ∷ [])) caught
+pub handed-out : run (before ++ lineOf g (first ∷ second ∷ third ∷ [])) caught
     ≡ refusal 1 ∷ frame 1 0 0 3 hello ∷ frame 1 0 0 6 reply ∷ frame 1 0 128 20 payload ∷ []
-unfolding run stepOf busy inFrame unescaped taken stored sized finished partOf line.lineOf escape escapeByte isMark crcFrom crcByte crcBit
-heard = ap (λ (p : List ℕ). run (before ++ lineWith p) caught) sealed-is
+unfolding run gives insideGives escapedGives valueGives frameGives stepOf busy inFrame unescaped taken stored sized partOf line.lineOf escape escapeByte isMark crcFrom crcByte crcBit
+handed-out = ap (λ (p : List ℕ). run (before ++ lineWith p) caught) sealed-is
 
--- what openings say, one behind the other
-abbrev pub spoken : List Opening → List Told
-spoken [] = []
-spoken (o ∷ os) = says (o .answer) (o .frame) (o .work) ++ spoken os
+-- what openings give, in order
+abbrev pub contents : List Opening → List (Judged Content Given)
+contents [] = []
+contents (o ∷ os) = answerContent (o .answer) (o .frame) (o .work) ∷ contents os
 
 -- of the two plain ones, by computing
-pub speaks : spoken (openings g at 0 (g .session) (run (lineOf g (first ∷ second ∷ [])) (after before caught)))
-    ≡ record { type = 0; values = 3 ∷ []; bytes = [] } ∷ record { type = 11; values = 1 ∷ []; bytes = 0x7E ∷ 0x5C ∷ [] } ∷ []
-unfolding openings opened answerOf openRules plainRules workAfter payloadOf run after stepOf busy inFrame unescaped taken stored sized finished partOf line.lineOf escape escapeByte isMark crcFrom crcByte crcBit
-speaks = refl
+pub plain-contents : contents (openings g at 0 (g .session) (run (lineOf g (first ∷ second ∷ [])) (after before caught)))
+    ≡ accepted (content 0 (3 ∷ []) []) ∷ accepted (content 11 (1 ∷ []) ((0x7E ∷ 0x5C ∷ []) ∷ [])) ∷ []
+unfolding openings opened answerOf uartOpenRules plainRules workAfter payloadAt run gives insideGives escapedGives valueGives frameGives after stepOf busy inFrame unescaped taken stored sized partOf line.lineOf escape escapeByte isMark crcFrom crcByte crcBit
+plain-contents = refl
 
 -- of all three, by the claim
-given : (is : List Item) (os : List Opening) → AllGive is os → spoken os ≡ toldIn is
-given [] [] ok = refl
-given [] (o ∷ os) ok = absurd ok
-given (i ∷ is) [] ok = absurd ok
-given (i ∷ is) (o ∷ os) ok = ap₂ (λ (x y : List Told). x ++ y) (ok .0 .tells) (given is os (ok .1))
+contents-are : (is : List Item) (os : List Opening) → AllGive is os → contents os ≡ itemContents is
+contents-are [] [] ok = refl
+contents-are [] (o ∷ os) ok = absurd ok
+contents-are (i ∷ is) [] ok = absurd ok
+contents-are (i ∷ is) (o ∷ os) ok = ap₂ (λ (x : Judged Content Given) (y : List (Judged Content Given)). x ∷ y) (ok .0 .content) (contents-are is os (ok .1))
 
 abbrev opens : List Opening
 opens = openings g at 0 (g .session) (run (lineOf g (first ∷ second ∷ third ∷ [])) (after before caught))
 
-pub all-speak : spoken opens
-    ≡ record { type = 0; values = 3 ∷ []; bytes = [] }
-    ∷ record { type = 11; values = 1 ∷ []; bytes = 0x7E ∷ 0x5C ∷ [] }
-    ∷ record { type = 10; values = 20 ∷ 100 ∷ []; bytes = [] }
-    ∷ []
-all-speak = given (items (first ∷ second ∷ third ∷ [])) opens (reads .gives)
+pub all-contents : contents opens
+    ≡ accepted (content 0 (3 ∷ []) []) ∷ accepted (content 11 (1 ∷ []) ((0x7E ∷ 0x5C ∷ []) ∷ [])) ∷ accepted (content 10 (20 ∷ 100 ∷ []) []) ∷ []
+all-contents = contents-are (items (first ∷ second ∷ third ∷ [])) opens (reads .gives)

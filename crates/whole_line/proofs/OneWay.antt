@@ -1,32 +1,31 @@
 -- Demand 3, proved along the list. Assumes nothing.
 use mathlib.Core.Path.{_≡_, refl, sym, ap, _∙_, subst}
 use mathlib.Core.Bool.{Bool, true, false}
-use mathlib.Core.List.{List, [], _∷_, _++_}
+use mathlib.Core.List.{List, [], _∷_, _++_, append-nil}
 use Prim.Native.Nat.{ℕ, suc}
 use native.Mathlib.Omega.{arith}
 use lib.ListN.{length}
 use Rattle.wire.specs.Choice.{pick}
-use Rattle.line.specs.Receive.{stepOf, busy}
+use Rattle.line.specs.Receive.{busy}
 use Rattle.line.specs.Line as line
-use Rattle.line.specs.Line.{Seen, refusal, frame, seen, run, after, NoStart, Sendable}
+use Rattle.line.specs.Line.{Emitted, refusal, insideGives, gives, run, after, NoStart, Sendable}
 use Rattle.line.proofs.Delivery.{delivered, after-kept, same-line}
 use Rattle.line.specs.declared.Receiver.{Receiver}
-use Rattle.line.specs.declared.Event.the-variants.{Nothing, Refused}
 use Rattle.session.specs.declared.Session.{Session}
-use Rattle.bridge.specs.declared.Setting.{Setting}
-use Rattle.whole_line.specs.Listed.{Sent, items, Made, onLine, lineOf, wrapperOf, wrapped, AllWritten, Occasion, Ready, Opening, openings, AllGive}
+use Rattle.bridge.specs.declared.Context.{Context}
+use Rattle.whole_line.specs.Listed.{SentItem, items, Made, onLine, lineOf, wrapperOf, wrapped, AllWritten, Occasion, Ready, Opening, openings, AllGive}
 use Rattle.whole_line.specs.Claim.{Read, OneWay}
 use Rattle.whole_line.proofs.Items.{one-short, one-seals, one-frames, one-gives, one-keeps, one-same}
 
-sendable : (g : Setting) (ts : List Sent) → Made g ts → Sendable (onLine g ts)
+sendable : (g : Context) (ts : List SentItem) → Made g ts → Sendable (onLine g ts)
 sendable g [] ok = tt
 sendable g (t ∷ ts) ok = (one-short g (t .item) (ok .0), ok .1, sendable g ts (ok .2))
 
-all-written : (g : Setting) (ts : List Sent) → Made g ts → AllWritten g (items ts)
+all-written : (g : Context) (ts : List SentItem) → Made g ts → AllWritten g (items ts)
 all-written g [] ok = tt
 all-written g (t ∷ ts) ok = (one-seals g (t .item) (ok .0), one-frames g (t .item) (ok .0), all-written g ts (ok .2))
 
-all-give : (g : Setting) (at : ℕ → Occasion) (n : ℕ) (ts : List Sent) → Made g ts → Ready g at n (items ts)
+all-give : (g : Context) (at : ℕ → Occasion) (n : ℕ) (ts : List SentItem) → Made g ts → Ready g at n (items ts)
     → AllGive (items ts) (openings g at n (g .session) (line.framesOf (onLine g ts)))
 unfolding openings line.framesOf
 all-give g at n [] ok fit = tt
@@ -38,31 +37,27 @@ all-give g at n (t ∷ ts) ok fit = (
 )
 
 -- ---- the start byte
-start-seen : (b : Bool) (l : List ℕ) → seen (pick b (Refused 1) Nothing) l ++ [] ≡ pick b (refusal 1 ∷ []) []
-start-seen true l = refl
-start-seen false l = refl
-
-behind : (b : Bool) (l : List ℕ) (x y : List Seen) → seen (pick b (Refused 1) Nothing) l ++ x ≡ pick b (refusal 1 ∷ []) [] ++ y → x ≡ y
-behind true l x y e = cc
-behind false l x y e = e
+behind : (b : Bool) (x y : List Emitted) → pick b (refusal 1 ∷ []) [] ++ x ≡ pick b (refusal 1 ∷ []) [] ++ y → x ≡ y
+behind true x y e = cc
+behind false x y e = e
 
 start : (r : Receiver) → run (0x7E ∷ []) r ≡ pick (busy (r .progress)) (refusal 1 ∷ []) []
-unfolding run stepOf
-start r = start-seen (busy (r .progress)) (r .store)
+unfolding run gives insideGives
+start r = append-nil _
 
-past : (r : Receiver) (l : List ℕ) (fs : List Seen) → run (0x7E ∷ l) r ≡ pick (busy (r .progress)) (refusal 1 ∷ []) [] ++ fs
+past : (r : Receiver) (l : List ℕ) (fs : List Emitted) → run (0x7E ∷ l) r ≡ pick (busy (r .progress)) (refusal 1 ∷ []) [] ++ fs
     → run l (after (0x7E ∷ []) r) ≡ fs
-unfolding run after stepOf
-past r l fs e = behind (busy (r .progress)) (r .store) (run l (after (0x7E ∷ []) r)) fs e
+unfolding run gives insideGives after
+past r l fs e = behind (busy (r .progress)) (run l (after (0x7E ∷ []) r)) fs e
 
 -- the refusal at the start byte is no frame
-skip : (g : Setting) (at : ℕ → Occasion) (n : ℕ) (s : Session) (b : Bool) (es : List Seen)
+skip : (g : Context) (at : ℕ → Occasion) (n : ℕ) (s : Session) (b : Bool) (es : List Emitted)
     → openings g at n s (pick b (refusal 1 ∷ []) [] ++ es) ≡ openings g at n s es
 unfolding openings
 skip g at n s true es = refl
 skip g at n s false es = refl
 
-module _ (g : Setting) (t : Sent) (ts : List Sent) (r : Receiver) (store : length (r .store) ≡ 512) (made : Made g (t ∷ ts)) where
+module _ (g : Context) (t : SentItem) (ts : List SentItem) (r : Receiver) (store : length (r .store) ≡ 512) (made : Made g (t ∷ ts)) where
   -- what is handed out, for any receiver
   pub handed : run (lineOf g (t ∷ ts)) r ≡ pick (busy (r .progress)) (refusal 1 ∷ []) [] ++ line.framesOf (onLine g (t ∷ ts))
   handed = delivered r _ (onLine g ts) store (sendable g (t ∷ ts) made)
@@ -82,7 +77,7 @@ module _ (g : Setting) (t : Sent) (ts : List Sent) (r : Receiver) (store : lengt
       }
 
 -- ---- the second part
-same-items : (g : Setting) (ts us : List Sent) → Made g ts → Made g us
+same-items : (g : Context) (ts us : List SentItem) → Made g ts → Made g us
     → line.framesOf (onLine g ts) ≡ line.framesOf (onLine g us) → items ts ≡ items us
 unfolding line.framesOf
 same-items g [] [] a b e = refl
@@ -97,7 +92,7 @@ same-items g (t ∷ ts) (u ∷ us) a b e =
     cc
 
 -- THE CLAIM
-pub no-line-two-ways : (g : Setting) → OneWay g
+pub no-line-two-ways : (g : Context) → OneWay g
 no-line-two-ways g =
     record {
       read = λ t ts made before r store at fit. reads g t ts (after before r) (after-kept before r ∙ store) made at fit;
@@ -106,7 +101,7 @@ no-line-two-ways g =
     }
 
 -- in the demand's own words: lists that differ never make the same line
-pub never-the-same : (g : Setting) (ts us : List Sent) → Made g ts → Made g us
+pub never-the-same : (g : Context) (ts us : List SentItem) → Made g ts → Made g us
     → (before before′ : List ℕ) → NoStart before → NoStart before′
     → (items ts ≡ items us → ⊥) → before ++ lineOf g ts ≡ before′ ++ lineOf g us → ⊥
 never-the-same g ts us mt mu b c nb nc differ e = differ (no-line-two-ways g .made ts us mt mu b c nb nc e)

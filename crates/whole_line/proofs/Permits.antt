@@ -1,4 +1,4 @@
--- A permitted message for each data type but the session nonce and for each command, and what it says: 'permitted' is empty at no row of the tables.
+-- A permitted message for each data type but the session nonce and for each command, and what it holds: 'permitted' is empty at no row of the tables.
 -- Assumes nothing.
 use mathlib.Core.Path.{_≡_, refl, sym}
 use mathlib.Core.Bool.{Bool, true, false, not, _&&_}
@@ -9,20 +9,20 @@ use lib.Dec.{leb, eqb}
 use borrow.Author.Tests.{leb-true, eqb-true, eqb-false, not-true}
 use Rattle.wire.proofs.Choice.{and-holds, true-false}
 use Rattle.wire.specs.Rules.{firstBroken}
+use Rattle.wire.specs.Content.{Content, content}
 use Rattle.access.specs.declared.Mode.{Mode}
 use Rattle.access.specs.declared.Mode.the-variants.{Normal, Setup}
-use Rattle.message.specs.Reading.{messageRules}
+use Rattle.message.specs.Reading.{messageRules, tableContent}
 use Rattle.message.specs.declared.Form.{Form}
 use Rattle.message.specs.declared.Form.the-variants.{Plain, Encrypted}
 use Rattle.session.specs.Keys.{noKey}
-use Rattle.bridge.specs.declared.Setting.{Setting}
-use Rattle.whole_line.specs.Told.{Told, dataType, toldOf}
-use Rattle.whole_line.specs.Listed.{Item, plain, sealed, messageOf, Permitted, Allowed}
+use Rattle.bridge.specs.declared.Context.{Context}
+use Rattle.whole_line.specs.Listed.{Item, plain, sealed, itemMessage, dataType, Permitted, PermittedItem}
 use Rattle.whole_line.specs.Bench.{packetOf}
 
 -- an admin key and a session, a mode, and whether encryption is required
-abbrev pub under : Mode → Bool → Setting
-under mode required =
+abbrev pub contextIn : Mode → Bool → Context
+contextIn mode required =
     record {
       session = record { held = true; nonce = replicate 5 1; timeout = record { 0 = 1 }; since = record { 0 = 100 } };
       time = record { 0 = 159 };
@@ -31,77 +31,74 @@ under mode required =
       required = required;
     }
 
--- a setting, an item, and what its message says
+-- a context, an item, and what its message holds
 pub record Case : Type 0 where
-  pub setting : Setting
+  pub context : Context
   pub item : Item
-  pub says : Told
+  pub holds : Content
 
-abbrev pub Allows : List Case → Type 0
-Allows [] = Unit {0}
-Allows (c ∷ cs) = Allowed (c .setting) (c .item) × Allows cs
+abbrev pub AllPermitted : List Case → Type 0
+AllPermitted [] = Unit {0}
+AllPermitted (c ∷ cs) = PermittedItem (c .context) (c .item) × AllPermitted cs
 
-abbrev pub toldIn : List Case → List Told
-toldIn [] = []
-toldIn (c ∷ cs) = toldOf (messageOf (c .item)) ∷ toldIn cs
+abbrev pub contentsRead : List Case → List Content
+contentsRead [] = []
+contentsRead (c ∷ cs) = tableContent (itemMessage (c .item)) ∷ contentsRead cs
 
-abbrev pub saidIn : List Case → List Told
-saidIn [] = []
-saidIn (c ∷ cs) = c .says ∷ saidIn cs
+abbrev pub contentsListed : List Case → List Content
+contentsListed [] = []
+contentsListed (c ∷ cs) = c .holds ∷ contentsListed cs
 
-abbrev tells : ℕ → List ℕ → List ℕ → Told
-tells type values bytes = record { type = type; values = values; bytes = bytes }
-
-abbrev inPlain : Mode → Bool → List ℕ → Told → Case
-inPlain mode required m t = record { setting = under mode required; item = plain m; says = t }
+abbrev inPlain : Mode → Bool → List ℕ → Content → Case
+inPlain mode required m t = record { context = contextIn mode required; item = plain m; holds = t }
 
 -- in normal mode, where encryption is required
 abbrev pn : List ℕ
 pn = 7 ∷ 8 ∷ 9 ∷ []
 
-abbrev encrypted : List ℕ → Told → Case
-encrypted m t = record { setting = under Normal true; item = sealed pn m; says = t }
+abbrev encrypted : List ℕ → Content → Case
+encrypted m t = record { context = contextIn Normal true; item = sealed pn m; holds = t }
 
 abbrev control : ℕ → List ℕ → List ℕ
 control n q = 10 ∷ 0 ∷ packetOf n q
 
 abbrev pub cases : List Case
 cases =
-    inPlain Normal true (0 ∷ 0 ∷ 15 ∷ []) (tells 0 (15 ∷ []) [])
-    ∷ inPlain Setup true (2 ∷ 0 ∷ 1 ∷ 2 ∷ []) (tells 2 (513 ∷ []) [])
-    ∷ encrypted (2 ∷ 0 ∷ 1 ∷ 2 ∷ []) (tells 2 (513 ∷ []) [])
-    ∷ encrypted (3 ∷ 0 ∷ 1 ∷ 2 ∷ replicate 9 7) (tells 3 (1 ∷ 2 ∷ []) (replicate 9 7))
-    ∷ inPlain Normal true (4 ∷ 0 ∷ []) (tells 4 [] [])
-    ∷ encrypted (11 ∷ 0 ∷ 1 ∷ 1 ∷ 8 ∷ 9 ∷ []) (tells 11 (257 ∷ []) (8 ∷ 9 ∷ []))
-    ∷ inPlain Setup false (control 0 (7 ∷ 8 ∷ replicate 97 6)) (tells 10 (0 ∷ 7 ∷ 8 ∷ []) (replicate 97 6))
-    ∷ encrypted (control 1 (0xEF ∷ 0xBE ∷ 0xAD ∷ 0xDE ∷ [])) (tells 10 (1 ∷ 0xDEADBEEF ∷ []) [])
-    ∷ inPlain Normal false (control 2 (1 ∷ 0 ∷ 2 ∷ 0 ∷ 2 ∷ 0 ∷ [])) (tells 10 (2 ∷ 1 ∷ 2 ∷ 2 ∷ 0 ∷ []) [])
-    ∷ encrypted (control 3 (1 ∷ 0 ∷ 2 ∷ 0 ∷ 1 ∷ 0 ∷ 4 ∷ 5 ∷ [])) (tells 10 (3 ∷ 1 ∷ 2 ∷ 1 ∷ 0 ∷ []) (4 ∷ 5 ∷ []))
-    ∷ inPlain Setup false (control 4 []) (tells 10 (4 ∷ []) [])
-    ∷ encrypted (control 5 []) (tells 10 (5 ∷ []) [])
-    ∷ encrypted (control 6 (1 ∷ 1 ∷ 0 ∷ 0 ∷ 0 ∷ 2 ∷ 0 ∷ [])) (tells 10 (6 ∷ 1 ∷ 1 ∷ 2 ∷ []) [])
-    ∷ encrypted (control 10 []) (tells 10 (10 ∷ []) [])
-    ∷ encrypted (control 11 []) (tells 10 (11 ∷ []) [])
-    ∷ inPlain Normal false (control 12 []) (tells 10 (12 ∷ []) [])
-    ∷ encrypted (control 13 []) (tells 10 (13 ∷ []) [])
-    ∷ inPlain Setup false (control 20 (100 ∷ [])) (tells 10 (20 ∷ 100 ∷ []) [])
-    ∷ encrypted (control 21 (2 ∷ 7 ∷ 100 ∷ 8 ∷ 0 ∷ [])) (tells 10 (21 ∷ 2 ∷ []) (7 ∷ 100 ∷ 8 ∷ 0 ∷ []))
+    inPlain Normal true (0 ∷ 0 ∷ 15 ∷ []) (content 0 (15 ∷ []) [])
+    ∷ inPlain Setup true (2 ∷ 0 ∷ 1 ∷ 2 ∷ []) (content 2 (513 ∷ []) [])
+    ∷ encrypted (2 ∷ 0 ∷ 1 ∷ 2 ∷ []) (content 2 (513 ∷ []) [])
+    ∷ encrypted (3 ∷ 0 ∷ 1 ∷ 2 ∷ replicate 9 7) (content 3 (1 ∷ 2 ∷ []) (replicate 9 7 ∷ []))
+    ∷ inPlain Normal true (4 ∷ 0 ∷ []) (content 4 [] [])
+    ∷ encrypted (11 ∷ 0 ∷ 1 ∷ 1 ∷ 8 ∷ 9 ∷ []) (content 11 (257 ∷ []) ((8 ∷ 9 ∷ []) ∷ []))
+    ∷ inPlain Setup false (control 0 (7 ∷ 8 ∷ replicate 97 6)) (content 10 (0 ∷ 7 ∷ 8 ∷ []) (replicate 96 6 ∷ (6 ∷ []) ∷ []))
+    ∷ encrypted (control 1 (0xEF ∷ 0xBE ∷ 0xAD ∷ 0xDE ∷ [])) (content 10 (1 ∷ 0xDEADBEEF ∷ []) [])
+    ∷ inPlain Normal false (control 2 (1 ∷ 0 ∷ 2 ∷ 0 ∷ 2 ∷ 0 ∷ [])) (content 10 (2 ∷ 1 ∷ 2 ∷ 2 ∷ 0 ∷ []) [])
+    ∷ encrypted (control 3 (1 ∷ 0 ∷ 2 ∷ 0 ∷ 1 ∷ 0 ∷ 4 ∷ 5 ∷ [])) (content 10 (3 ∷ 1 ∷ 2 ∷ 1 ∷ 0 ∷ []) ((4 ∷ 5 ∷ []) ∷ []))
+    ∷ inPlain Setup false (control 4 []) (content 10 (4 ∷ []) [])
+    ∷ encrypted (control 5 []) (content 10 (5 ∷ []) [])
+    ∷ encrypted (control 6 (1 ∷ 1 ∷ 0 ∷ 0 ∷ 0 ∷ 2 ∷ 0 ∷ [])) (content 10 (6 ∷ 1 ∷ 1 ∷ 2 ∷ []) [])
+    ∷ encrypted (control 10 []) (content 10 (10 ∷ []) [])
+    ∷ encrypted (control 11 []) (content 10 (11 ∷ []) [])
+    ∷ inPlain Normal false (control 12 []) (content 10 (12 ∷ []) [])
+    ∷ encrypted (control 13 []) (content 10 (13 ∷ []) [])
+    ∷ inPlain Setup false (control 20 (100 ∷ [])) (content 10 (20 ∷ 100 ∷ []) [])
+    ∷ encrypted (control 21 (2 ∷ 7 ∷ 100 ∷ 8 ∷ 0 ∷ [])) (content 10 (21 ∷ 2 ∷ []) ((7 ∷ 100 ∷ 8 ∷ 0 ∷ []) ∷ []))
     ∷ []
 
 -- what is asked of an item, as one test
-abbrev fits : Setting → Form → ℕ → List ℕ → Bool
+abbrev fits : Context → Form → ℕ → List ℕ → Bool
 fits g f most m = leb 2 (length m) && (leb (length m) most && (not (eqb (dataType m) 1) && eqb (firstBroken (messageRules f (g .required) (g .mode) m)) 0))
 
 abbrev isNormal : Mode → Bool
 isNormal Normal = true
 isNormal Setup = false
 
-abbrev may : Setting → Item → Bool
+abbrev may : Context → Item → Bool
 may g (plain m) = fits g Plain 507 m
 may g (sealed n m) =
     fits g Encrypted 490 m && (isNormal (g .mode) && (g .keys .admin .held && (g .session .held && eqb (length n) 3)))
 
-permitted : (g : Setting) (f : Form) (most : ℕ) (m : List ℕ) → fits g f most m ≡ true → Permitted g f most m
+permitted : (g : Context) (f : Form) (most : ℕ) (m : List ℕ) → fits g f most m ≡ true → Permitted g f most m
 permitted g f most m e =
     let a = and-holds (leb 2 (length m)) _ e in
     let b = and-holds (leb (length m) most) _ (a .1) in
@@ -117,9 +114,9 @@ normal : (m : Mode) → isNormal m ≡ true → m ≡ Normal
 normal Normal e = refl
 normal Setup e = true-false (sym e)
 
-allowed : (g : Setting) (i : Item) → may g i ≡ true → Allowed g i
-allowed g (plain m) e = permitted g Plain 507 m e
-allowed g (sealed n m) e =
+permitted-item : (g : Context) (i : Item) → may g i ≡ true → PermittedItem g i
+permitted-item g (plain m) e = permitted g Plain 507 m e
+permitted-item g (sealed n m) e =
     let a = and-holds (fits g Encrypted 490 m) _ e in
     let b = and-holds (isNormal (g .mode)) _ (a .1) in
     let c = and-holds (g .keys .admin .held) _ (b .1) in
@@ -128,16 +125,16 @@ allowed g (sealed n m) e =
 
 abbrev all : List Case → Bool
 all [] = true
-all (c ∷ cs) = may (c .setting) (c .item) && all cs
+all (c ∷ cs) = may (c .context) (c .item) && all cs
 
-each : (cs : List Case) → all cs ≡ true → Allows cs
+each : (cs : List Case) → all cs ≡ true → AllPermitted cs
 each [] e = tt
-each (c ∷ cs) e = let a = and-holds (may (c .setting) (c .item)) (all cs) e in (allowed (c .setting) (c .item) (a .0), each cs (a .1))
+each (c ∷ cs) e = let a = and-holds (may (c .context) (c .item)) (all cs) e in (permitted-item (c .context) (c .item) (a .0), each cs (a .1))
 
--- every case is allowed
-pub permits : Allows cases
+-- every case is permitted
+pub permits : AllPermitted cases
 permits = each cases refl
 
--- and says what stands beside it
-pub all-say : toldIn cases ≡ saidIn cases
-all-say = refl
+-- and holds what stands beside it
+pub all-hold : contentsRead cases ≡ contentsListed cases
+all-hold = refl

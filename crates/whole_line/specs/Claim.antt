@@ -1,4 +1,4 @@
--- DEMAND 3: NO LINE CAN BE READ TWO WAYS. The statement; proofs/OneWay.antt proves it for every setting.
+-- DEMAND 3: NO LINE CAN BE READ TWO WAYS. The statement; proofs/OneWay.antt proves it for every context.
 use Prim.Native.Nat.{ℕ}
 use mathlib.Core.Path.{_≡_}
 use mathlib.Core.List.{List, [], _∷_, _++_}
@@ -7,11 +7,11 @@ use Rattle.wire.specs.Choice.{pick}
 use Rattle.line.specs.Receive.{busy}
 use Rattle.line.specs.Line as line
 use Rattle.line.specs.declared.Receiver.{Receiver}
-use Rattle.bridge.specs.declared.Setting.{Setting}
-use Rattle.whole_line.specs.Listed.{Sent, items, Made, onLine, lineOf, AllWritten, Occasion, Ready, openings, AllGive}
+use Rattle.bridge.specs.declared.Context.{Context}
+use Rattle.whole_line.specs.Listed.{SentItem, items, Made, onLine, lineOf, AllWritten, Occasion, Ready, openings, AllGive}
 
 -- What becomes of a list of one message or more, from its first start byte on. r is the receiver as that byte finds it.
-pub record Read (g : Setting) (ts : List Sent) (r : Receiver) (at : ℕ → Occasion) : Type 0 where
+pub record Read (g : Context) (ts : List SentItem) (r : Receiver) (at : ℕ → Occasion) : Type 0 where
   -- given room, each is written, as one frame
   pub writes : AllWritten g (items ts)
   -- the line's first byte is the first frame's start byte
@@ -24,17 +24,17 @@ pub record Read (g : Setting) (ts : List Sent) (r : Receiver) (at : ℕ → Occa
   pub gives : AllGive (items ts) (openings g at 0 (g .session) (line.run (lineOf g ts) r))
 
 -- g: keys, mode, whether encryption is required, and the session in use.
-pub record OneWay (g : Setting) : Type 0 where
-  -- any list of permitted messages, whatever is strewn between and after them and whatever came before, whatever record the receiver is,
+pub record OneWay (g : Context) : Type 0 where
+  -- any list of permitted messages, whatever noise is between and after them and whatever came before, whatever record the receiver is,
   -- whatever the work buffers hold
   pub read :
-      (t : Sent) (ts : List Sent) → Made g (t ∷ ts)
+      (t : SentItem) (ts : List SentItem) → Made g (t ∷ ts)
       → (before : List ℕ) (r : Receiver) → length (r .store) ≡ 512
       → (at : ℕ → Occasion) → Ready g at 0 (items (t ∷ ts))
       → Read g (t ∷ ts) (line.after before r) at
-  -- two lists that make the same line, whatever is strewn in either, are the same: in length, and at each place in message, form and packet nonce
+  -- two lists that make the same line, whatever noise is in either, are the same: in length, and at each place in message, form and packet nonce
   pub made :
-      (ts us : List Sent) → Made g ts → Made g us
+      (ts us : List SentItem) → Made g ts → Made g us
       → (before before′ : List ℕ) → line.NoStart before → line.NoStart before′
       → before ++ lineOf g ts ≡ before′ ++ lineOf g us
       → items ts ≡ items us

@@ -1,4 +1,3 @@
-pub mod Told
 pub mod Listed
 pub mod Claim
 pub mod Bench

@@ -5,11 +5,6 @@ use Prim.Native.Nat.{ℕ}
 use native.Mathlib.Omega.{arith}
 use Rattle.wire.specs.Choice.{pick}
 
--- a function goes inside
-pub pick-map : {A B : Type 0} (f : A → B) (t : Bool) (a b : A) → f (pick t a b) ≡ pick t (f a) (f b)
-pick-map f true a b = refl
-pick-map f false a b = refl
-
 -- what holds of each choice, where its test sends there, holds of the choice
 pub pick-all : {A : Type 0} (P : A → Type 0) (t : Bool) {a b : A} → (t ≡ true → P a) → (t ≡ false → P b) → P (pick t a b)
 pick-all P true p q = p refl

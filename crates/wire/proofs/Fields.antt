@@ -84,9 +84,6 @@ module _ (l : Layout) (vs : List ℕ) (ps cut : List Part) (s : List ℕ) where
   pub unreadable-past : anyPast s ps ≡ true → unreadable l vs ps cut s ≡ true
   unreadable-past e = rw e
 
-  pub unreadable-fit : unfit (l .fields) vs ≡ true → unreadable l vs ps cut s ≡ true
-  unreadable-fit e = rw (e, or-true (anyPast s ps))
-
   pub unreadable-size : wrongSize (l .size) (bodyOf l vs ps s) ≡ true → unreadable l vs ps cut s ≡ true
   unreadable-size e = rw (e, or-true (anyPast s ps || unfit (l .fields) vs))
 

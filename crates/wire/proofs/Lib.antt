@@ -6,7 +6,9 @@ pub mod Writing
 pub mod Xor
 pub mod Table
 pub mod Lookup
+pub mod Content
 pub mod Fields
 pub mod Five
 pub mod Writers
 pub mod Held
+pub mod Given

@@ -7,12 +7,12 @@ use borrow.Author.Tests.{ne-eqb, eqb-true}
 use Rattle.wire.specs.Lookup.{lookup}
 use Rattle.wire.proofs.Choice.{pick-all}
 
--- ---- the default of a `match` on single numbers: what it is told, arm by arm
+-- ---- the default of a `match` on single numbers: what is known there, arm by arm
 abbrev pub Rest : Type 0 → List ℕ → ℕ → Type 0
 Rest X [] n = X
 Rest X (k ∷ ks) n = Rest (X × (n ≡ k → ⊥)) ks n
 
--- the same, one fact for each key
+-- a number is none of the keys, one fact for each
 abbrev pub NoneOf : List ℕ → ℕ → Type 0
 NoneOf [] n = Unit {0}
 NoneOf (k ∷ ks) n = (n ≡ k → ⊥) × NoneOf ks n

@@ -20,7 +20,7 @@ sets-placed at bytes room h = sets-eq bytes room at h ∙ append-assoc (take at 
 module _ (at : ℕ) (bytes room : List ℕ) where
   -- a rule is broken
   pub stores-refused : (rules : List Rule) (n : ℕ) → firstBroken rules ≡ suc n → Stores rules at bytes room (Refused (suc n)) room
-  stores-refused rules n e = record { answers = rw e; leaves = rw e }
+  stores-refused rules n e = record { number = rw e; answers = rw e; leaves = rw e }
 
   -- there is no room
   pub stores-short : length room < at + length bytes → Stores (noRoom at bytes room ∷ []) at bytes room (Refused 25) room
@@ -30,12 +30,12 @@ module _ (at : ℕ) (bytes room : List ℕ) where
   pub stores-made : {after : List ℕ} {n : ℕ} → at + length bytes ≤ length room → after ≡ sets room at bytes → n ≡ length bytes
       → Stores (noRoom at bytes room ∷ []) at bytes room (Wrote n) after
   stores-made h s l =
-      record { answers = rw (le-ltb _ _ h, l); leaves = rw (le-ltb _ _ h, s) (sets-placed at bytes room h) }
+      record { number = rw (le-ltb _ _ h, l); answers = rw (le-ltb _ _ h, l); leaves = rw (le-ltb _ _ h, s) (sets-placed at bytes room h) }
 
   -- a rule before the others that holds
   pub stores-past : {rules : List Rule} {answer : Written} {after : List ℕ} (n : ℕ) (b : Bool) → b ≡ false → Stores rules at bytes room answer after
       → Stores ((n when b) ∷ rules) at bytes room answer after
-  stores-past n b e w = record { answers = rw e (w .answers); leaves = rw e (w .leaves) }
+  stores-past n b e w = record { number = rw e (w .number); answers = rw e (w .answers); leaves = rw e (w .leaves) }
 
 -- the bytes by another name
 pub stores-same : (at : ℕ) {bytes bytes′ room : List ℕ} {answer : Written} {after : List ℕ} → bytes ≡ bytes′

@@ -34,10 +34,6 @@ xor-assoc a =
     ∙ sym (xor-mod n (bitXor b c) 1 ∙ ap (λ (x : ℕ). bitXor (n % 2) x) (xor-mod b c 1)) in
     omega arith) a
 
--- the first two cancel
-pub xor-cancel : (a b : ℕ) → bitXor a (bitXor a b) ≡ b
-xor-cancel a b = sym (xor-assoc a a b) ∙ ap (λ (x : ℕ). bitXor x b) (xor-self a)
-
 -- done twice it changes nothing
 pub xor-twice : (a b : ℕ) → bitXor (bitXor a b) b ≡ a
 xor-twice a b = xor-assoc a b b ∙ ap (bitXor a) (xor-self b) ∙ xor-zero-r a

@@ -2,10 +2,11 @@
 use Prim.Native.Nat.{ℕ, _+_, _*_, _^_}
 use mathlib.Core.Bool.{Bool, true, false, not, _&&_, _||_}
 use mathlib.Core.List.{List, [], _∷_, _++_}
-use lib.ListN.{length, getD, drop}
+use lib.ListN.{length, getD, take, drop}
 use lib.Dec.{eqb, ltb}
 use Rattle.wire.specs.Numbers.{num, le}
 use Rattle.wire.specs.Parts.{partOf}
+use Rattle.wire.specs.Content.{Content, content}
 use Rattle.wire.specs.declared.Part.{Part}
 
 -- a field of so many bytes: any number, a number up to a limit, one number alone
@@ -41,10 +42,22 @@ wrongSize (exactly n) s = not (eqb (length s) n)
 wrongSize (atLeast n) s = ltb (length s) n
 wrongSize pairs s = not (eqb (length s) (1 + 2 * getD s 0 0))
 
--- what follows the fields: anything, or pairs whose second byte is at most a limit
+-- what follows the fields
 pub data Tail : Type 0 where
+  nothing : Tail
+  -- one part: anything
   free : Tail
+  -- two parts: so many bytes, and the rest
+  cutAt : ℕ → Tail
+  -- one part: pairs whose second byte is at most a limit
   seconds : ℕ → Tail
+
+-- the parts of what follows the fields
+abbrev pub tailParts : Tail → List ℕ → List (List ℕ)
+tailParts nothing s = []
+tailParts free s = s ∷ []
+tailParts (cutAt n) s = take n s ∷ drop n s ∷ []
+tailParts (seconds limit) s = s ∷ []
 
 abbrev pub secondAbove : ℕ → List ℕ → Bool
 secondAbove limit [] = false
@@ -52,7 +65,9 @@ secondAbove limit (a ∷ []) = false
 secondAbove limit (a ∷ (b ∷ s)) = ltb limit b || secondAbove limit s
 
 abbrev pub wrongTail : Tail → List ℕ → Bool
+wrongTail nothing s = false
 wrongTail free s = false
+wrongTail (cutAt n) s = false
 wrongTail (seconds limit) s = secondAbove limit s
 
 pub record Layout : Type 0 where
@@ -69,10 +84,14 @@ abbrev pub valuesAt : List Field → ℕ → List ℕ → List ℕ
 valuesAt [] at s = []
 valuesAt (f ∷ fs) at s = num (width f) at s ∷ valuesAt fs (at + width f) s
 
--- one of them is not taken
+-- a field, of which the first stands at a place, does not take its number
 abbrev pub wrongAt : List Field → ℕ → List ℕ → Bool
 wrongAt [] at s = false
 wrongAt (f ∷ fs) at s = wrong f (num (width f) at s) || wrongAt fs (at + width f) s
+
+-- what a layout reads of bytes, under a number
+abbrev pub contentBy : ℕ → Layout → List ℕ → Content
+contentBy n l s = content n (valuesAt (l .fields) 0 s) (tailParts (l .tail) (drop (widths (l .fields)) s))
 
 -- a field, or what follows the fields, is not taken
 abbrev pub wrongFields : Layout → List ℕ → Bool
@@ -92,11 +111,20 @@ unfit [] (v ∷ vs) = true
 unfit (f ∷ fs) [] = true
 unfit (f ∷ fs) (v ∷ vs) = not (ltb v (256 ^ width f)) || unfit fs vs
 
+-- the bytes that each part names
+abbrev pub eachPart : List ℕ → List Part → List (List ℕ)
+eachPart s [] = []
+eachPart s (p ∷ ps) = partOf s p ∷ eachPart s ps
+
+-- lists of bytes, one behind the other
+abbrev pub joined : List (List ℕ) → List ℕ
+joined [] = []
+joined (a ∷ []) = a
+joined (a ∷ (b ∷ rest)) = a ++ joined (b ∷ rest)
+
 -- the bytes that parts name, one behind the other
 abbrev pub partsOf : List ℕ → List Part → List ℕ
-partsOf s [] = []
-partsOf s (p ∷ []) = partOf s p
-partsOf s (p ∷ (p′ ∷ ps)) = partOf s p ++ partsOf s (p′ ∷ ps)
+partsOf s ps = joined (eachPart s ps)
 
 -- a part runs past the end
 abbrev pub past : List ℕ → Part → Bool

@@ -1,7 +1,9 @@
 -- Refusals in order: a list of rules, each a number and whether it is broken. The first broken one is given.
-use mathlib.Core.Bool.{Bool, true, false}
+use mathlib.Core.Path.{_≡_}
+use mathlib.Core.Bool.{Bool, true, false, _||_}
 use mathlib.Core.List.{List, [], _∷_}
 use Prim.Native.Nat.{ℕ, zero, suc}
+use lib.Dec.{eqb}
 
 -- a row of document 01's table of refusals: the number, given when the test holds
 infix 20 _when_
@@ -30,3 +32,17 @@ verdict refuse (suc n) good = refuse (suc n)
 -- a list of rules judged
 abbrev pub judge {ℓ} : {A : Type ℓ} → (ℕ → A) → List Rule → A → A
 judge refuse rs good = verdict refuse (firstBroken rs) good
+
+-- the numbers that a list of rules can give
+abbrev pub numbers : List Rule → List ℕ
+numbers [] = []
+numbers ((n when b) ∷ rs) = n ∷ numbers rs
+
+abbrev pub among : ℕ → List ℕ → Bool
+among n [] = false
+among n (m ∷ ms) = eqb n m || among n ms
+
+-- something holds exactly when a test does
+pub record Exactly (test : Bool) (C : Type 0) : Type 0 where
+  pub only : test ≡ true → C
+  pub if : C → test ≡ true

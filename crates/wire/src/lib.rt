@@ -64,7 +64,7 @@ pub fn read_u16(s: &[u8], at: usize) -> u16
     (byte_at(s, at) as u16) + 256 * (byte_at(s, at + 1) as u16)
 }
 
-// The same of four bytes.
+// The number of four bytes at a place, low byte first; a byte past the end counts as 0.
 pub fn read_u32(s: &[u8], at: usize) -> u32
     ensures { λ r. ⌜ r ≡ num 4 at (now (s .entry)) ⌝ }
 {
@@ -120,22 +120,6 @@ pub fn store(bytes: &[u8], at: usize, out: &mut [u8]) -> Written
     }
     copy(bytes, at, out);
     Written::Wrote(bytes.len())
-}
-
-// A number's two bytes from a place on.
-pub fn store_u16(v: u16, at: usize, out: &mut [u8]) -> Written
-    ensures { λ r. ⌜ Stores (noRoom at (le 2 v) (now (out .entry)) ∷ []) at (le 2 v) (now (out .entry)) r (now (out .exit)) ⌝ }
-{
-    let bytes = u16_bytes(v);
-    store(&bytes, at, out)
-}
-
-// A number's four bytes from a place on.
-pub fn store_u32(v: u32, at: usize, out: &mut [u8]) -> Written
-    ensures { λ r. ⌜ Stores (noRoom at (le 4 v) (now (out .entry)) ∷ []) at (le 4 v) (now (out .entry)) r (now (out .exit)) ⌝ }
-{
-    let bytes = u32_bytes(v);
-    store(&bytes, at, out)
 }
 
 // An image of three slices, one behind the other, at the front; 25 where there is no room for it.

@@ -6,8 +6,8 @@ use lib.ListN.{length, drop}
 use borrow.Author.Tests.{not-true, not-false}
 use Rattle.line.specs.Receive.{holding}
 use Rattle.line.specs.Feed.{fed}
-use Rattle.line.proofs.Moves.{fine}
-use Rattle.line.proofs.Feeding.{feed-goes, feed-halts, feed-end}
+use Rattle.line.proofs.Moves.{move-limits}
+use Rattle.line.proofs.Feeding.{feed-continues, feed-stops, feed-end, feeds}
 use Rattle.line.proofs.advance.Statement.{statement}
 use Rattle.line.proofs.advance.Tie as tie
 
@@ -18,18 +18,19 @@ abbrev μ-loop : tie.MeasureT-loop
 μ-loop store₀ s from progress₀ i₀ store progress i = length s - i
 
 acted-requires : tie.Need-acted-requires Inv-loop μ-loop
-acted-requires c κs = fine _ _ _ (c .before .step .ensures)
+acted-requires c κs = move-limits _ _ _ (c .before .step .ensures)
 
 returns : tie.Need-returns Inv-loop μ-loop
 returns c =
     let a = c .before .before .before in
     let m = a .before .before in
     let l = m .before .before .before in
-    feed-halts _ _ _ _ _ _ _ _ (m .before .before .loop-test .taken) (m .step .ensures) (a .acted .ensures .0) (a .acted .ensures .1) (l .loop .inv)
-    (sym (c .before .silent .ensures) ∙ not-true (c .before .silent .result) (c .if1 .taken))
+    feeds _ _ _ _
+    (feed-stops _ _ _ _ _ _ _ _ (m .before .before .loop-test .taken) (m .step .ensures) (a .acted .ensures) (l .loop .inv)
+    (sym (c .before .silent .ensures) ∙ not-true (c .before .silent .result) (c .if1 .taken)))
 
 loop-less : tie.Need-loop-less Inv-loop μ-loop
-loop-less c = omega (arith, c .before .skip .ensures .0)
+loop-less c = omega (arith, c .before .skip .ensures .forward)
 
 loop-again : tie.Need-loop-again Inv-loop μ-loop
 loop-again c =
@@ -37,12 +38,11 @@ loop-again c =
     let a = d .before .before .before in
     let m = a .before .before in
     let l = m .before .before .before in
-    sym (c .before .skip .ensures .1)
-    ∙ feed-goes _ _ _ _ _ _ _ _ (m .before .before .loop-test .taken) (m .step .ensures) (a .acted .ensures .0) (a .acted .ensures .1) (l .loop .inv)
-    (sym (d .before .silent .ensures) ∙ not-false (d .before .silent .result) (d .if1 .left))
+    feed-continues _ _ _ _ _ _ _ _ (m .before .before .loop-test .taken) (m .step .ensures) (a .acted .ensures) (l .loop .inv)
+    (sym (d .before .silent .ensures) ∙ not-false (d .before .silent .result) (d .if1 .left)) (c .before .skip .ensures)
 
 returns-2 : tie.Need-returns-2 Inv-loop μ-loop
-returns-2 c = sym (feed-end _ _ _ (c .loop-test .left)) ∙ c .before .loop .inv
+returns-2 c = feeds _ _ _ _ (sym (feed-end _ _ _ (c .loop-test .left)) ∙ c .before .loop .inv)
 
 pub advance-spec : {M : Type 1} → statement M
 advance-spec =

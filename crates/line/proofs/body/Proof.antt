@@ -1,25 +1,24 @@
 -- `body` meets its contract: a feed from where it began is a feed from where it is now. Assumes nothing.
 use Prim.Native.Nat.{_+_, _-_, _≤_, _<_}
 use mathlib.Core.Bool.{false}
-use mathlib.Core.Path.{_≡_, refl, _∙_}
+use mathlib.Core.Path.{_≡_}
 use native.Mathlib.Omega.{arith}
-use lib.ListN.{length, drop}
+use lib.ListN.{length}
 use Rattle.line.specs.Receive.{holding, reading}
-use Rattle.line.specs.Feed.{fed}
-use Rattle.line.proofs.Feeding.{stays}
+use Rattle.line.specs.Feed.{Skips}
+use Rattle.line.proofs.Feeding.{stays, skips-none, skips-then}
 use Rattle.line.proofs.body.Statement.{statement}
 use Rattle.line.proofs.body.Tie as tie
 
 abbrev Inv-loop : tie.InvT-loop
 Inv-loop store₀ low had size s from got₀ i₀ store got i =
-    (from ≤ i) × (2 ≤ got) × (got < size + 2)
-    × (fed from (drop from s) (holding (reading false low had size) store₀) ≡ fed i (drop i s) (holding (reading false low got size) store))
+    (2 ≤ got) × (got < size + 2) × Skips s from (holding (reading false low had size) store₀) i (holding (reading false low got size) store)
 
 abbrev μ-loop : tie.MeasureT-loop
 μ-loop store₀ low had size s from got₀ i₀ store got i = length s - i
 
 returns : tie.Need-returns Inv-loop μ-loop
-returns c = let v = c .before .before .before .before .loop .inv in (v .0, v .3)
+returns c = c .before .before .before .before .loop .inv .2
 
 -- a byte that goes into the store
 stayed : (c : tie.Else1 Inv-loop μ-loop)
@@ -32,7 +31,7 @@ element-write-store c = omega (arith, stayed c .1)
 add-i : tie.Need-add-i Inv-loop μ-loop
 add-i c =
     let w = stayed (c .before) in
-    omega (arith, c .before .before .before .unescape-at .ensures (w .0) .1)
+    omega (arith, c .before .before .before .unescape-at .ensures (w .0) .fits)
 
 loop-less : tie.Need-loop-less Inv-loop μ-loop
 loop-less c = omega (arith, stayed (c .before) .0)
@@ -44,10 +43,10 @@ loop-again c =
     let p = l .before .before .pre in
     let w = stayed (c .before) in
     let u = c .before .before .before .unescape-at .ensures (w .0) in
-    (omega arith, omega arith, omega (arith, w .1), v .3 ∙ u .2 _ _ _ _ (v .1) (p .1) (p .2) (w .1))
+    (omega arith, omega (arith, w .1), skips-then (v .2) (u .puts _ _ _ _ (v .0) (p .1) (p .2) (w .1)))
 
 returns-2 : tie.Need-returns-2 Inv-loop μ-loop
-returns-2 c = let v = c .before .loop .inv in (v .0, v .3)
+returns-2 c = c .before .loop .inv .2
 
 pub body-spec : {M : Type 1} → statement M
 body-spec =
@@ -55,7 +54,7 @@ body-spec =
     (tie.spec
     Inv-loop
     μ-loop
-    (λ c. (omega arith, omega arith, omega arith, refl))
+    (λ c. (omega arith, omega arith, skips-none _ _ _))
     (λ c κs. omega arith)
     (λ c κs. tt)
     returns

@@ -2,7 +2,7 @@
 use mathlib.Core.Path.{sym, _∙_}
 use borrow.Author.Tests.{not-true, not-false}
 use Rattle.line.proofs.Moves.{busy-counts}
-use Rattle.line.proofs.Feeding.{skipped}
+use Rattle.line.proofs.Feeding.{skips-from}
 use borrow.Author.Needs.{needs}
 use Rattle.line.proofs.skip.Statement.{statement}
 use Rattle.line.proofs.skip.Tie as tie
@@ -10,7 +10,7 @@ use Rattle.line.proofs.skip.Tie as tie
 returns : tie.Need-returns
 returns c =
     let e = c .before .before in
-    (c .noise .ensures .0, c .noise .ensures .1 _ _ (sym (e .busy .ensures) ∙ not-true (e .busy .result) (c .before .if1 .taken)))
+    c .noise .ensures _ _ (sym (e .busy .ensures) ∙ not-true (e .busy .result) (c .before .if1 .taken))
 
 body-requires : tie.Need-body-requires
 body-requires c κs =
@@ -22,7 +22,7 @@ returns-4 : tie.Need-returns-4
 returns-4 c =
     let e = c .before .before .before .before in
     let t = sym (e .before .before .busy .ensures) ∙ not-false (e .before .before .busy .result) (e .before .if1 .left) in
-    (c .body .ensures .0, skipped _ _ _ _ t (e .if2 .left) (c .body .ensures .1))
+    skips-from _ t (e .if2 .left) (c .body .ensures)
 
 pub skip-spec : {M : Type 1} → statement M
 skip-spec =

@@ -7,11 +7,20 @@ use Rattle.line.proofs.stored.Tie as tie
 
 returns : tie.Need-returns
 unfolding moves.storedMove
-returns c = simp (eq-eqb _ _ (c .if1 .taken))
+returns c = simp (eq-eqb _ _ (c .before .if1 .taken), c .idle .ensures)
 
 returns-2 : tie.Need-returns-2
 unfolding moves.storedMove
 returns-2 c = simp (ne-eqb _ _ (c .if1 .left))
 
 pub stored-spec : {M : Type 1} → statement M
-stored-spec = tie.close (tie.spec (λ c. search needs) (λ c. search needs) (λ c. search needs) (λ c. search needs) returns returns-2)
+stored-spec =
+    tie.close
+    (tie.spec
+    (λ c. search needs)
+    (λ c κs. search needs)
+    (λ c. search needs)
+    (λ c. search needs)
+    (λ c. search needs)
+    returns
+    returns-2)

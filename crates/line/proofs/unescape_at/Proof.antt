@@ -16,7 +16,10 @@ returns c = λ w. absurd (w refl)
 returns-2 : tie.Need-returns-2
 returns-2 c = λ w.
     let a = c .before .before .before .args in
-    (omega arith, omega arith, λ low got size st h2 h5 h512 hg. plain-next low got size h2 h5 h512 hg (a .s .now) st (a .i) (c .before .before .before .pre) (c .before .if1 .left) (c .if2 .taken))
+    record {
+      fits = omega arith;
+      puts = λ low got size st h2 h5 h512 hg. plain-next low got size h2 h5 h512 hg (a .s .now) st (a .i) (c .before .before .before .pre) (c .before .if1 .left) (c .if2 .taken);
+    }
 
 returns-3 : tie.Need-returns-3
 returns-3 c = λ w. absurd (w refl)
@@ -24,24 +27,22 @@ returns-3 c = λ w. absurd (w refl)
 returns-4 : tie.Need-returns-4
 returns-4 c = λ w.
     let a = c .before .before .before .before .before .before .args in
-    let s = a .s .now in (
-      omega arith,
-      omega arith,
-      λ low got size st h2 h5 h512 hg.
-          escaped-next low got size h2 h5 h512 hg s st (a .i) 0x7E (omega arith) (c .before .before .before .if2 .left)
-          (ap (moveOf (reading true low got size)) (c .if4 .taken) ∙ move-3E low got size h5 h512 (omega arith)),
-    )
+    record {
+      fits = omega arith;
+      puts = λ low got size st h2 h5 h512 hg.
+          escaped-next low got size h2 h5 h512 hg (a .s .now) st (a .i) 0x7E (omega arith) (c .before .before .before .if2 .left)
+          (ap (moveOf (reading true low got size)) (c .if4 .taken) ∙ move-3E low got size h5 h512 (omega arith));
+    }
 
 returns-5 : tie.Need-returns-5
 returns-5 c = λ w.
     let a = c .before .before .before .before .before .before .before .args in
-    let s = a .s .now in (
-      omega arith,
-      omega arith,
-      λ low got size st h2 h5 h512 hg.
-          escaped-next low got size h2 h5 h512 hg s st (a .i) 0x5C (omega arith) (c .before .before .before .before .if2 .left)
-          (ap (moveOf (reading true low got size)) (c .if5 .taken) ∙ move-1C low got size h5 h512 (omega arith)),
-    )
+    record {
+      fits = omega arith;
+      puts = λ low got size st h2 h5 h512 hg.
+          escaped-next low got size h2 h5 h512 hg (a .s .now) st (a .i) 0x5C (omega arith) (c .before .before .before .before .if2 .left)
+          (ap (moveOf (reading true low got size)) (c .if5 .taken) ∙ move-1C low got size h5 h512 (omega arith));
+    }
 
 returns-6 : tie.Need-returns-6
 returns-6 c = λ w. absurd (w refl)

@@ -3,7 +3,7 @@ use Prim.Native.Nat.{_-_, _≤_}
 use native.Mathlib.Omega.{arith}
 use lib.ListN.{length}
 use borrow.Author.Needs.{needs}
-use Rattle.line.proofs.Feeding.{advances-to}
+use Rattle.line.proofs.Feeding.{advances}
 use Rattle.line_lister.proofs.list_read.Statement.{statement}
 use Rattle.line_lister.proofs.list_read.Tie as tie
 
@@ -16,7 +16,7 @@ abbrev μ-loop : tie.MeasureT-loop
 loop-less : tie.Need-loop-less Inv-loop μ-loop
 loop-less c =
     let a = c .before .before .before .before .before in
-    omega (arith, advances-to _ _ _ _ _ _ (a .advance .ensures) (a .before .before .loop-test .taken))
+    omega (arith, advances (a .advance .ensures) (a .before .before .loop-test .taken))
 
 pub list-read-spec : {M : Type 1} → statement M
 list-read-spec =

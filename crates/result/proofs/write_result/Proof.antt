@@ -10,10 +10,13 @@ returns : tie.Need-returns
 returns c = writes-bad (rw (sym (c .before .runs-past .ensures) ∙ c .if1 .taken))
 
 returns-2 : tie.Need-returns-2
-returns-2 c = writes-bad (rw (sym (c .before .before .runs-past .ensures) ∙ c .before .if1 .left, lt-ltb _ _ (c .if2 .taken)))
+returns-2 c =
+    writes-bad (rw (sym (c .before .before .before .runs-past .ensures) ∙ c .before .before .if1 .left, lt-ltb _ _ (c .if2 .taken)))
 
 returns-3 : tie.Need-returns-3
-returns-3 c = writes-good (rw (sym (c .before .before .before .before .before .before .before .before .before .before .before .before .before .runs-past .ensures) ∙ c .before .before .before .before .before .before .before .before .before .before .before .before .if1 .left, le-ltb _ _ (c .before .before .before .before .before .before .before .before .before .before .before .if2 .left))) (rw (c .before .before .before .before .part-of .ensures) at (c .before .before .write3 .ensures))
+returns-3 c =
+    writes-good (rw (sym (c .before .before .before .before .before .before .before .before .before .before .before .before .before .before .runs-past .ensures) ∙ c .before .before .before .before .before .before .before .before .before .before .before .before .before .if1 .left, le-ltb _ _ (c .before .before .before .before .before .before .before .before .before .before .before .if2 .left)))
+    (rw (c .before .before .before .before .before .before .before .before .before .before .u16-bytes .ensures, c .before .before .before .before .before .before .before .before .before .u16-bytes2 .ensures, c .before .before .before .before .before .before .before .u16-bytes3 .ensures, c .before .before .before .before .part-of .ensures) at (c .before .before .write3 .ensures))
 
 pub write-result-spec : {M : Type 1} → statement M
 write-result-spec =
@@ -22,6 +25,10 @@ write-result-spec =
     (λ c κs. search needs)
     returns
     returns-2
+    (λ c κs. search needs)
+    (λ c κs. search needs)
+    (λ c. search needs)
+    (λ c κs. search needs)
     (λ c. search needs)
     (λ c. search needs)
     (λ c. search needs)

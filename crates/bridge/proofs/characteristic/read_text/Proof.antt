@@ -4,15 +4,15 @@ use mathlib.Core.List.{List}
 use Prim.Native.Nat.{ℕ, _+_}
 use native.Mathlib.Omega.{arith}
 use lib.ListN.{length}
-use Rattle.wire.specs.Rules.{judge}
-use Rattle.wire.proofs.Rules.{judge-append}
+use Rattle.wire.specs.Rules.{firstBroken, judge}
+use Rattle.wire.proofs.Rules.{judge-append, judge-pass}
 use Rattle.access.specs.Level.{levelOf}
 use Rattle.access.specs.declared.Access.{Access}
-use Rattle.control.specs.Control.{commandRules, readCommand}
+use Rattle.control.specs.Control.{commandRules, readControl}
 use Rattle.envelope.specs.Characteristic.{characteristicRules, packetIn}
-use Rattle.bridge.specs.Characteristic.{accessFor, textRules, commandTold}
-use Rattle.bridge.specs.Opening.{commandRefused, commandAnswerBy, commandTextAnswer}
-use Rattle.bridge.proofs.Judging.{judge-pass, judge-stop}
+use Rattle.bridge.specs.Characteristic.{accessFor, packetTextRules, acceptedCommand}
+use Rattle.bridge.specs.Opening.{refusedCommand, commandAnswerBy, commandTextAnswer}
+use Rattle.bridge.proofs.Judging.{judge-stop}
 use Rattle.bridge.proofs.Commands.{answer-read, packet-long}
 use Rattle.bridge.specs.declared.CommandAnswer.the-variants.{Refused}
 use borrow.Author.Needs.{needs}
@@ -20,15 +20,15 @@ use Rattle.bridge.proofs.characteristic.read_text.Statement.{statement}
 use Rattle.bridge.proofs.characteristic.read_text.Tie as tie
 
 returns : tie.Need-returns
-unfolding commandTextAnswer textRules
+unfolding commandTextAnswer packetTextRules
 returns c =
     let a = c .before .before .before .before .before .before .args in
     let t = a .text .now in
     let v = a .link .connection .validation in
     let rest = commandRules (packetIn t) (a .link .mode) (accessFor (levelOf (a .level))) in
     ap Refused (c .characteristic-refusal .ensures)
-    ∙ sym (judge-append commandRefused (characteristicRules v t) rest (commandTold t)
-    ∙ judge-stop commandRefused (characteristicRules v t) (judge commandRefused rest (commandTold t)) _ (c .before .before .judge-characteristic .ensures) (c .before .if1 .taken))
+    ∙ sym (judge-append refusedCommand (characteristicRules v t) rest (acceptedCommand t)
+    ∙ judge-stop refusedCommand (characteristicRules v t) (judge refusedCommand rest (acceptedCommand t)) _ (c .before .before .judge-characteristic .ensures) (c .before .if1 .taken))
 
 answer-by-requires : tie.Need-answer-by-requires
 answer-by-requires c κs =
@@ -37,7 +37,7 @@ answer-by-requires c κs =
     omega (arith, c .before .before .end-of .ensures, ap length (c .before .before .before .packet-in .ensures), l)
 
 returns-2 : tie.Need-returns-2
-unfolding commandTextAnswer textRules
+unfolding commandTextAnswer packetTextRules
 returns-2 c =
     let a = c .before .before .before .before .before .before .before .before .before .before .args in
     let t = a .text .now in
@@ -46,12 +46,13 @@ returns-2 c =
     let e : c .before .before .before .before .packet-in .result .now ≡ packetIn t = c .before .before .before .before .packet-in .ensures in
     let n : c .before .before .before .end-of .result ≡ 4 + length (packetIn t) = c .before .before .before .end-of .ensures ∙ ap (λ (l : List ℕ). 4 + length l) e in
     let rest = commandRules (packetIn t) (a .link .mode) x in
+    let h : firstBroken (characteristicRules v t) ≡ 0 = sym (c .before .before .before .before .before .before .judge-characteristic .ensures) ∙ c .before .before .before .before .before .if1 .left in
     c .answer-by .ensures
     ∙ ap (commandAnswerBy (c .before .before .before .end-of .result))
-    (c .before .read-command .ensures ∙ ap₂ (λ (l : List ℕ) (y : Access). readCommand l (a .link .mode) y) e (c .before .before .access-for .ensures))
-    ∙ answer-read t (c .before .before .before .end-of .result) (a .link .mode) x n
-    ∙ sym (judge-append commandRefused (characteristicRules v t) rest (commandTold t)
-    ∙ judge-pass commandRefused (characteristicRules v t) (judge commandRefused rest (commandTold t)) (sym (c .before .before .before .before .before .before .judge-characteristic .ensures) ∙ c .before .before .before .before .before .if1 .left))
+    (c .before .read-control .ensures .answer ∙ ap₂ (λ (l : List ℕ) (y : Access). readControl l (a .link .mode) y) e (c .before .before .access-for .ensures))
+    ∙ answer-read v t (c .before .before .before .end-of .result) (a .link .mode) x n h
+    ∙ sym (judge-append refusedCommand (characteristicRules v t) rest (acceptedCommand t)
+    ∙ judge-pass refusedCommand (characteristicRules v t) (judge refusedCommand rest (acceptedCommand t)) h)
 
 pub read-text-spec : {M : Type 1} → statement M
 read-text-spec =

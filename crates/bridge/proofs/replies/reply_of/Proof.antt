@@ -1,34 +1,34 @@
 -- `replies::reply_of` meets its contract: each arm is a row of the table. Assumes nothing.
+use mathlib.Core.Path.{refl}
 use mathlib.Core.List.{[]}
 use Rattle.wire.proofs.Lookup.{lookup-past}
-use Rattle.bridge.specs.Reply.{replyOf, replies, numberIn, replyIn}
-use Rattle.bridge.specs.declared.Reply.the-variants.{Nothing}
+use Rattle.bridge.specs.Reply.{entryOf, noReply, replies, numberIn, entryIn}
 use Rattle.bridge.proofs.replies.reply_of.Statement.{statement}
 use Rattle.bridge.proofs.replies.reply_of.Tie as tie
 
 pub reply-of-spec : {M : Type 1} → statement M
-unfolding replyOf
+unfolding entryOf
 reply-of-spec =
     tie.close
     (tie.spec
-    (λ c. rw (c .match .keys1))
-    (λ c. rw (c .match .keys2))
-    (λ c. rw (c .match .keys3))
-    (λ c. rw (c .match .keys4))
-    (λ c. rw (c .match .keys5))
-    (λ c. rw (c .match .keys6))
-    (λ c. rw (c .match .keys7))
-    (λ c. rw (c .match .keys8))
-    (λ c. rw (c .match .keys9))
-    (λ c. rw (c .match .keys10))
-    (λ c. rw (c .match .keys11))
-    (λ c. rw (c .match .keys12))
-    (λ c. rw (c .match .keys13))
-    (λ c. rw (c .match .keys14))
-    (λ c. rw (c .match .keys15))
-    (λ c. rw (c .match .keys16))
-    (λ c. rw (c .match .keys17))
-    (λ c. rw (c .match .keys18))
-    (λ c. rw (c .match .keys19))
-    (λ c. rw (c .match .keys20))
-    (λ c. rw (lookup-past numberIn replyIn Nothing replies [] (c .before .args .number) (c .match .rest))))
+    (λ c. rw (c .match .keys1) (refl, refl))
+    (λ c. rw (c .match .keys2) (refl, refl))
+    (λ c. rw (c .match .keys3) (refl, refl))
+    (λ c. rw (c .match .keys4) (refl, refl))
+    (λ c. rw (c .match .keys5) (refl, refl))
+    (λ c. rw (c .match .keys6) (refl, refl))
+    (λ c. rw (c .match .keys7) (refl, refl))
+    (λ c. rw (c .match .keys8) (refl, refl))
+    (λ c. rw (c .match .keys9) (refl, refl))
+    (λ c. rw (c .match .keys10) (refl, refl))
+    (λ c. rw (c .match .keys11) (refl, refl))
+    (λ c. rw (c .match .keys12) (refl, refl))
+    (λ c. rw (c .match .keys13) (refl, refl))
+    (λ c. rw (c .match .keys14) (refl, refl))
+    (λ c. rw (c .match .keys15) (refl, refl))
+    (λ c. rw (c .match .keys16) (refl, refl))
+    (λ c. rw (c .match .keys17) (refl, refl))
+    (λ c. rw (c .match .keys18) (refl, refl))
+    (λ c. rw (c .match .keys19) (refl, refl))
+    (λ c. rw (c .match .keys20) (refl, refl))
+    (λ c. rw (lookup-past numberIn entryIn noReply replies [] (c .before .args .number) (c .match .rest)) (refl, refl)))

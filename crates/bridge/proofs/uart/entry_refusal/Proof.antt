@@ -3,24 +3,24 @@ use mathlib.Core.Path.{ap, _∙_}
 use Prim.Native.Nat.{ℕ}
 use lib.ListN.{getD}
 use Rattle.wire.specs.Rules.{firstBroken}
-use Rattle.bridge.specs.Opener.{blockRules, sessionRules, entryRules}
+use Rattle.bridge.specs.Opener.{blockRules, sessionRules, uartEntryRules}
 use Rattle.bridge.proofs.Judging.{first-stop, first-pass}
 use borrow.Author.Needs.{needs}
 use Rattle.bridge.proofs.uart.entry_refusal.Statement.{statement}
 use Rattle.bridge.proofs.uart.entry_refusal.Tie as tie
 
 returns : tie.Need-returns
-unfolding entryRules
+unfolding uartEntryRules
 returns c =
     let a = c .before .before .before .args in
-    first-stop (blockRules (a .payload .now) (a .room)) (sessionRules (a .setting) (getD (a .payload .now) 3 0)) (c .before .block-refusal .ensures) (c .if1 .taken)
+    first-stop (blockRules (a .payload .now) (a .room)) (sessionRules (a .context) (getD (a .payload .now) 3 0)) (c .before .block-refusal .ensures) (c .if1 .taken)
 
 returns-2 : tie.Need-returns-2
-unfolding entryRules
+unfolding uartEntryRules
 returns-2 c =
     let a = c .before .before .before .before .before .args in
-    first-pass (blockRules (a .payload .now) (a .room)) (sessionRules (a .setting) (getD (a .payload .now) 3 0)) (c .before .before .before .block-refusal .ensures) (c .before .before .if1 .left)
-    (c .session-refusal .ensures ∙ ap (λ (i : ℕ). firstBroken (sessionRules (a .setting) i)) (c .before .byte-at .ensures .0))
+    first-pass (blockRules (a .payload .now) (a .room)) (sessionRules (a .context) (getD (a .payload .now) 3 0)) (c .before .before .before .block-refusal .ensures) (c .before .before .if1 .left)
+    (c .session-refusal .ensures ∙ ap (λ (i : ℕ). firstBroken (sessionRules (a .context) i)) (c .before .byte-at .ensures .0))
 
 pub entry-refusal-spec : {M : Type 1} → statement M
 entry-refusal-spec =

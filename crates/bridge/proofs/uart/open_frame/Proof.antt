@@ -10,7 +10,7 @@ use Rattle.bridge.proofs.uart.open_frame.Tie as tie
 returns : tie.Need-returns
 returns c =
     let a = c .before .before .before .before .args in
-    let r = wrong-major (a .setting) (length (a .work .now)) (a .major) (a .wrapper) (a .payload .now) (a .work .now) (c .before .if1 .taken) in
+    let r = wrong-major (a .context) (length (a .work .now)) (a .major) (a .wrapper) (a .payload .now) (a .work .now) (c .before .if1 .taken) in
     (ap Refused (c .refusal .ensures) ∙ sym (r .0), sym (r .1))
 
 returns-2 : tie.Need-returns-2
@@ -18,22 +18,22 @@ returns-2 c =
     let a = c .before .before .before .before .before .before .before .before .args in
     let s = c .before .before .open-sealed .ensures in
     rw (c .before .before .before .before .before .if1 .left, c .before .before .before .before .if2 .taken) (
-      s .0 ∙ sealed-frame (a .setting) (length (a .work .now)) (a .payload .now),
-      s .1 ∙ sealed-left (a .setting) (a .payload .now) (a .work .now),
+      s .0 ∙ sealed-frame (a .context) (length (a .work .now)) (a .payload .now),
+      s .1 ∙ sealed-left (a .context) (a .payload .now) (a .work .now),
     )
 
 returns-3 : tie.Need-returns-3
 returns-3 c =
     let a = c .before .before .before .before .before .before .args in
-    let r = wrong-wrapper (a .setting) (length (a .work .now)) (a .wrapper) (a .payload .now) (a .work .now) (c .before .before .if2 .left) (c .before .if3 .taken) in
+    let r = wrong-wrapper (a .context) (length (a .work .now)) (a .wrapper) (a .payload .now) (a .work .now) (c .before .before .if2 .left) (c .before .if3 .taken) in
     rw (c .before .before .before .if1 .left) (ap Refused (c .refusal2 .ensures) ∙ sym (r .0), sym (r .1))
 
 returns-4 : tie.Need-returns-4
 returns-4 c =
     let a = c .before .before .before .before .before .before .args in
     rw (c .before .before .before .if1 .left, c .before .if3 .left) (
-      c .open-plain .ensures ∙ plain-frame (a .setting) (length (a .work .now)) (a .payload .now),
-      plain-left (a .setting) (a .payload .now) (a .work .now),
+      c .open-plain .ensures ∙ plain-frame (a .context) (length (a .work .now)) (a .payload .now),
+      plain-left (a .context) (a .payload .now) (a .work .now),
     )
 
 pub open-frame-spec : {M : Type 1} → statement M

@@ -25,8 +25,8 @@ returns-3 : tie.Need-returns-3
 returns-3 c =
     let a = c .before .before .before .before .before .args in
     let p = a .payload .now in
-    c .answer-by .ensures ∙ ap (answerBy false 0 (length p)) (c .before .read-message .ensures) ∙ answer-read false 0 (length p) p Plain (a .setting) (omega arith)
-    ∙ sym (plain-passes (a .setting) p (c .before .before .before .if1 .left) (c .before .before .if2 .left))
+    c .answer-by .ensures ∙ ap (answerBy false 0 (length p)) (c .before .read-message .ensures .answer) ∙ answer-read false 0 (length p) p Plain (a .context) (omega arith)
+    ∙ sym (plain-passes (a .context) p (c .before .before .before .if1 .left) (c .before .before .if2 .left))
 
 pub open-plain-spec : {M : Type 1} → statement M
 open-plain-spec =

@@ -5,7 +5,7 @@ use native.Mathlib.Omega.{arith}
 use lib.ListN.{length}
 use Rattle.wire.specs.Rules.{firstBroken}
 use Rattle.envelope.specs.Blocks.{blocksIn}
-use Rattle.bridge.specs.Opener.{entryRules, textOf}
+use Rattle.bridge.specs.Opener.{uartEntryRules, uartText}
 use Rattle.bridge.specs.Opening.{textAnswer}
 use Rattle.bridge.proofs.Judging.{blocks-part}
 use Rattle.bridge.proofs.Opening.{whole, long, accepted-after, refused-after, refused-before}
@@ -17,40 +17,40 @@ use Rattle.bridge.proofs.uart.open_sealed.Tie as tie
 returns : tie.Need-returns
 returns c =
     let a = c .before .before .before .before .before .args in
-    let r = refused-before (a .setting) (a .payload .now) (a .work .now) _ (c .before .before .entry-refusal .ensures) (c .before .if1 .taken) in
+    let r = refused-before (a .context) (a .payload .now) (a .work .now) _ (c .before .before .entry-refusal .ensures) (c .before .if1 .taken) in
     (ap Refused (c .refusal .ensures) ∙ r .0, r .1)
 
 sub-n : tie.Need-sub-n
 sub-n c =
     let a = c .before .before .before .before .before .before .before .before .args in
-    omega (arith, whole (a .setting) (a .payload .now) (a .work .now) (sym (c .before .before .before .before .before .entry-refusal .ensures) ∙ c .before .before .before .before .if1 .left) .0)
+    omega (arith, whole (a .context) (a .payload .now) (a .work .now) (sym (c .before .before .before .before .before .entry-refusal .ensures) ∙ c .before .before .before .before .if1 .left) .0)
 
 returns-2 : tie.Need-returns-2
 returns-2 c =
     let a = c .before .before .before .before .before .before .before .before .before .before .before .before .before .before .args in
-    let g = a .setting in
+    let g = a .context in
     let p = a .payload .now in
     let w = a .work .now in
-    let e : firstBroken (entryRules g (length w) p) ≡ 0 = sym (c .before .before .before .before .before .before .before .before .before .before .before .entry-refusal .ensures) ∙ c .before .before .before .before .before .before .before .before .before .before .if1 .left in
+    let e : firstBroken (uartEntryRules g (length w) p) ≡ 0 = sym (c .before .before .before .before .before .before .before .before .before .before .before .entry-refusal .ensures) ∙ c .before .before .before .before .before .before .before .before .before .before .if1 .left in
     let k : length p - 4 ≡ 16 * blocksIn p = omega (arith, whole g p w e .0) in
     let d = c .before .before .before .before .before .before .before .before .decipher .ensures in
     accepted-after g p w e
     (sym (c .before .answer .given .1) ∙ c .before .before .before .read-text .ensures
-    ∙ ap (textAnswer g) (c .before .before .before .before .part-of .ensures ∙ blocks-part (blocksIn p) (textOf g p) w (long g p w e) d k))
+    ∙ ap (textAnswer g) (c .before .before .before .before .part-of .ensures ∙ blocks-part (blocksIn p) (uartText g p) w (long g p w e) d k))
     d
 
 returns-3 : tie.Need-returns-3
 returns-3 c =
     let a = c .before .before .before .before .before .before .before .before .before .before .before .before .before .before .before .before .before .before .args in
-    let g = a .setting in
+    let g = a .context in
     let p = a .payload .now in
     let w = a .work .now in
-    let e : firstBroken (entryRules g (length w) p) ≡ 0 = sym (c .before .before .before .before .before .before .before .before .before .before .before .before .before .before .before .entry-refusal .ensures) ∙ c .before .before .before .before .before .before .before .before .before .before .before .before .before .before .if1 .left in
+    let e : firstBroken (uartEntryRules g (length w) p) ≡ 0 = sym (c .before .before .before .before .before .before .before .before .before .before .before .before .before .before .before .entry-refusal .ensures) ∙ c .before .before .before .before .before .before .before .before .before .before .before .before .before .before .if1 .left in
     let k : length p - 4 ≡ 16 * blocksIn p = omega (arith, whole g p w e .0) in
     let d = c .before .before .before .before .before .before .before .before .before .before .before .before .decipher .ensures in
     refused-after g p w e
     (sym (c .before .before .before .before .before .answer2 .given .1) ∙ c .before .before .before .before .before .before .before .read-text .ensures
-    ∙ ap (textAnswer g) (c .before .before .before .before .before .before .before .before .part-of .ensures ∙ blocks-part (blocksIn p) (textOf g p) w (long g p w e) d k))
+    ∙ ap (textAnswer g) (c .before .before .before .before .before .before .before .before .part-of .ensures ∙ blocks-part (blocksIn p) (uartText g p) w (long g p w e) d k))
     d k (c .before .before .clear .ensures)
 
 pub open-sealed-spec : {M : Type 1} → statement M

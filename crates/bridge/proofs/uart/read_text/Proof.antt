@@ -6,14 +6,14 @@ use Prim.Native.Nat.{ℕ, _+_}
 use native.Mathlib.Omega.{arith}
 use lib.ListN.{length}
 use Rattle.wire.specs.Rules.{judge}
-use Rattle.wire.proofs.Rules.{judge-append}
+use Rattle.wire.proofs.Rules.{judge-append, judge-pass}
 use Rattle.envelope.specs.Sealed.{lateRules, messageIn}
 use Rattle.envelope.proofs.Unsealed.{holds}
 use Rattle.message.specs.Reading.{messageRules, readMessage}
 use Rattle.message.specs.declared.Form.the-variants.{Encrypted}
-use Rattle.bridge.specs.Opener.{told, textRules}
-use Rattle.bridge.specs.Opening.{refused, answerBy, textAnswer}
-use Rattle.bridge.proofs.Judging.{judge-pass, judge-stop}
+use Rattle.bridge.specs.Opener.{acceptedMessage, uartTextRules}
+use Rattle.bridge.specs.Opening.{refusedAnswer, answerBy, textAnswer}
+use Rattle.bridge.proofs.Judging.{judge-stop}
 use Rattle.bridge.proofs.Opening.{answer-read}
 use Rattle.bridge.specs.declared.Answer.the-variants.{Refused}
 use borrow.Author.Needs.{needs}
@@ -21,14 +21,14 @@ use Rattle.bridge.proofs.uart.read_text.Statement.{statement}
 use Rattle.bridge.proofs.uart.read_text.Tie as tie
 
 returns : tie.Need-returns
-unfolding textAnswer textRules
+unfolding textAnswer uartTextRules
 returns c =
     let a = c .before .before .before .before .args in
     let t = a .text .now in
-    let rest = messageRules Encrypted (a .setting .required) (a .setting .mode) (messageIn t) in
+    let rest = messageRules Encrypted (a .context .required) (a .context .mode) (messageIn t) in
     ap Refused (c .refusal .ensures)
-    ∙ sym (judge-append refused (lateRules t) rest (told true 6 (messageIn t))
-    ∙ judge-stop refused (lateRules t) (judge refused rest (told true 6 (messageIn t))) _ (c .before .before .judge-text .ensures) (c .before .if1 .taken))
+    ∙ sym (judge-append refusedAnswer (lateRules t) rest (acceptedMessage true 6 (messageIn t))
+    ∙ judge-stop refusedAnswer (lateRules t) (judge refusedAnswer rest (acceptedMessage true 6 (messageIn t))) _ (c .before .before .judge-text .ensures) (c .before .if1 .taken))
 
 end-of-requires : tie.Need-end-of-requires
 end-of-requires c κs =
@@ -37,19 +37,19 @@ end-of-requires c κs =
     omega (arith, ap length (c .message-in .ensures), h .size, h .least)
 
 returns-2 : tie.Need-returns-2
-unfolding textAnswer textRules
+unfolding textAnswer uartTextRules
 returns-2 c =
     let a = c .before .before .before .before .before .before .before .args in
     let t = a .text .now in
     let m = messageIn t in
     let e : c .before .before .before .message-in .result .now ≡ m = c .before .before .before .message-in .ensures in
     let n : c .before .before .end-of .result ≡ 6 + length m = c .before .before .end-of .ensures ∙ ap (λ (l : List ℕ). 6 + length l) e in
-    let rest = messageRules Encrypted (a .setting .required) (a .setting .mode) m in
+    let rest = messageRules Encrypted (a .context .required) (a .context .mode) m in
     c .answer-by .ensures
-    ∙ ap (answerBy true 6 (c .before .before .end-of .result)) (c .before .read-message .ensures ∙ ap (λ (l : List ℕ). readMessage l Encrypted (a .setting .required) (a .setting .mode)) e)
-    ∙ answer-read true 6 (c .before .before .end-of .result) m Encrypted (a .setting) n
-    ∙ sym (judge-append refused (lateRules t) rest (told true 6 m)
-    ∙ judge-pass refused (lateRules t) (judge refused rest (told true 6 m)) (sym (c .before .before .before .before .before .judge-text .ensures) ∙ c .before .before .before .before .if1 .left))
+    ∙ ap (answerBy true 6 (c .before .before .end-of .result)) (c .before .read-message .ensures .answer ∙ ap (λ (l : List ℕ). readMessage l Encrypted (a .context .required) (a .context .mode)) e)
+    ∙ answer-read true 6 (c .before .before .end-of .result) m Encrypted (a .context) n
+    ∙ sym (judge-append refusedAnswer (lateRules t) rest (acceptedMessage true 6 m)
+    ∙ judge-pass refusedAnswer (lateRules t) (judge refusedAnswer rest (acceptedMessage true 6 m)) (sym (c .before .before .before .before .before .judge-text .ensures) ∙ c .before .before .before .before .if1 .left))
 
 pub read-text-spec : {M : Type 1} → statement M
 read-text-spec =

@@ -9,7 +9,7 @@ use Rattle.wire.specs.Fields.{past}
 use Rattle.wire.proofs.Fields.{part-length}
 use Rattle.wire.proofs.Writers.{writes-bad, writes-as}
 use Rattle.control.specs.declared.Command.the-variants.{MultiSwitch}
-use Rattle.control_write.specs.Image.{payloadOf}
+use Rattle.control_write.specs.Image.{payloadImage}
 use Rattle.control_write.proofs.Refusing.{bad-past, bad-size, bad-fields, long-only}
 use borrow.Author.Needs.{needs}
 use Rattle.control_write.proofs.payloads.multi_switch.Statement.{statement}
@@ -22,7 +22,7 @@ returns-2 : tie.Need-returns-2
 returns-2 c =
     let g = c .before .before .before .before .before .before .before .before .before .args in
     let s = g .bytes .now in
-    let q = payloadOf (MultiSwitch (g .f)) s in
+    let q = payloadImage (MultiSwitch (g .f)) s in
     let l = part-length s (g .f .pairs) (sym (c .before .before .before .before .runs-past .ensures) ∙ c .before .before .before .if1 .left) in
     let w = rw (c .before .before .wide .ensures .0) at (c .if2 .taken) in
     writes-bad (bad-size (g .limit) (MultiSwitch (g .f)) (g .bytes .now) (simp (ne-eqb (length q) (1 + 2 * g .f .count) (omega arith))))
@@ -34,7 +34,7 @@ returns-4 : tie.Need-returns-4
 returns-4 c =
     let g = c .before .before .before .before .before .before .before .before .before .before .before .before .before .before .before .before .before .before .args in
     let s = g .bytes .now in
-    let q = payloadOf (MultiSwitch (g .f)) s in
+    let q = payloadImage (MultiSwitch (g .f)) s in
     let e : past s (g .f .pairs) ≡ false = sym (c .before .before .before .before .before .before .before .before .before .before .before .before .before .runs-past .ensures) ∙ c .before .before .before .before .before .before .before .before .before .before .before .before .if1 .left in
     let l = part-length s (g .f .pairs) e in
     let w = rw (c .before .before .before .before .before .before .before .before .before .before .before .wide .ensures .0) at (c .before .before .before .before .before .before .before .before .before .if2 .left) in

@@ -9,7 +9,7 @@ use Rattle.wire.specs.Fields.{past}
 use Rattle.wire.proofs.Fields.{part-length}
 use Rattle.wire.proofs.Writers.{writes-bad, writes-as}
 use Rattle.control.specs.declared.Command.the-variants.{SetState}
-use Rattle.control_write.specs.Image.{payloadOf}
+use Rattle.control_write.specs.Image.{payloadImage}
 use Rattle.control_write.proofs.Refusing.{bad-past, bad-fields, long-only}
 use borrow.Author.Needs.{needs}
 use Rattle.control_write.proofs.payloads.set_state.Statement.{statement}
@@ -25,7 +25,7 @@ returns-3 : tie.Need-returns-3
 returns-3 c =
     let g = c .before .before .before .before .before .before .before .before .before .before .before .before .before .before .before .before .args in
     let s = g .bytes .now in
-    let q = payloadOf (SetState (g .f)) s in
+    let q = payloadImage (SetState (g .f)) s in
     let e : past s (g .f .value) ≡ false = sym (c .before .before .before .before .before .before .before .before .before .before .before .runs-past .ensures) ∙ c .before .before .before .before .before .before .before .before .before .before .if1 .left in
     let l = part-length s (g .f .value) e in
     writes-as

@@ -10,7 +10,7 @@ use Rattle.wire.specs.Parts.{partOf}
 use Rattle.wire.proofs.Fields.{part-length}
 use Rattle.wire.proofs.Writers.{writes-bad, writes-as}
 use Rattle.control.specs.declared.Command.the-variants.{Setup}
-use Rattle.control_write.specs.Image.{payloadOf}
+use Rattle.control_write.specs.Image.{payloadImage}
 use Rattle.control_write.proofs.Refusing.{bad-past, bad-cut, long-only}
 use borrow.Author.Needs.{needs}
 use Rattle.control_write.proofs.payloads.setup.Statement.{statement}
@@ -30,7 +30,7 @@ returns-4 c =
     let g = c .before .before .before .before .before .before .before .before .before .before .before .before .before .before .before .before .before .before .args in
     let h = c .before .before .before .before .before .before .before .before .before .before .before .before .before .before .before .before .before .before .good .1 .1 .0 in
     let s = g .bytes .now in
-    let q = payloadOf (Setup (g .f)) s in
+    let q = payloadImage (Setup (g .f)) s in
     let e : past s (g .f .keys) ≡ false = sym (c .before .before .before .before .before .before .before .before .before .before .before .before .runs-past .ensures) ∙ c .before .before .before .before .before .before .before .before .before .before .before .if1 .left in
     let o : past s (g .f .rest) ≡ false = sym (c .before .before .before .before .before .before .before .before .before .before .runs-past2 .ensures) ∙ c .before .before .before .before .before .before .before .before .before .if2 .left in
     let k = part-length s (g .f .keys) e in

@@ -1,12 +1,10 @@
 -- `envelope::opening::decipher` meets its contract. Assumes nothing.
+use mathlib.Core.Path.{refl, sym}
 use mathlib.Core.List.{[]}
 use native.Mathlib.Omega.{arith}
+use borrow.Author.Needs.{needs}
 use Rattle.wire.proofs.Writing.{stores-made, stores-same}
 use Rattle.envelope.proofs.Envelopes.{none-deciphered, deciphered-is}
--- `envelope::opening::decipher` meets its contract. Assumes nothing.
-use mathlib.Core.Path.{refl, sym}
-use Rattle.wire.proofs.Writing.{stores-made}
-use borrow.Author.Needs.{needs}
 use Rattle.envelope.proofs.opening.decipher.Statement.{statement}
 use Rattle.envelope.proofs.opening.decipher.Tie as tie
 

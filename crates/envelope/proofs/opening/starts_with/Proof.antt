@@ -1,11 +1,9 @@
 -- `envelope::opening::starts_with` meets its contract. Assumes nothing.
-use Rattle.envelope.proofs.Bytes.{front-last}
--- `envelope::opening::starts_with` meets its contract. Assumes nothing.
 use mathlib.Core.Path.{sym, _∙_}
 use native.Mathlib.Omega.{arith}
 use borrow.Author.Tests.{eq-eqb, ne-eqb}
-use Rattle.envelope.proofs.Bytes.{front-short, front-same}
 use borrow.Author.Needs.{needs}
+use Rattle.envelope.proofs.Bytes.{front-short, front-same, front-last}
 use Rattle.envelope.proofs.opening.starts_with.Statement.{statement}
 use Rattle.envelope.proofs.opening.starts_with.Tie as tie
 

@@ -10,13 +10,13 @@ returns : tie.Need-returns
 returns c =
     let a = c .before .before .before .before .before .args in
     c .serving .ensures
-    ∙ ap (λ (r : LevelRead). keyForRead (a .self) (a .mode) r) (sym (c .before .before .level .given .1) ∙ c .before .before .before .before .level-of .ensures)
+    ∙ ap (λ (r : LevelRead). keyForRead (a .self) (a .mode) r) (sym (c .before .before .level .given .1) ∙ c .before .before .before .before .level-of .ensures .1)
 
 returns-2 : tie.Need-returns-2
 returns-2 c =
     let a = c .before .before .before .before .args in
     c .none .ensures
-    ∙ ap (λ (r : LevelRead). keyForRead (a .self) (a .mode) r) (sym (c .before .enum-told .given .1) ∙ c .before .before .before .level-of .ensures)
+    ∙ ap (λ (r : LevelRead). keyForRead (a .self) (a .mode) r) (sym (c .before .enum-told .given .1) ∙ c .before .before .before .level-of .ensures .1)
 
 pub serving-number-spec : {M : Type 1} → statement M
 serving-number-spec =
