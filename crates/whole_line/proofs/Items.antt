@@ -8,6 +8,7 @@ use lib.ListN.{length, drop, replicate}
 use lib.Seq.{take-length}
 use borrow.Author.Tests.{le-ltb}
 use Rattle.wire.specs.Rules.{firstBroken}
+use Rattle.wire.specs.Content.{accepted}
 use Rattle.wire.specs.Writing.{writerRules}
 use Rattle.wire.proofs.Lookup.{lookup-all}
 use Rattle.wire.proofs.Writers.{wrote}
@@ -18,7 +19,7 @@ use Rattle.access.specs.declared.Mode.{Mode}
 use Rattle.access.specs.declared.Mode.the-variants.{Normal}
 use Rattle.access.specs.declared.Level.the-variants.{Admin}
 use Rattle.message.specs.Table.{Row, table, noRow}
-use Rattle.message.specs.Reading.{messageRules, messageAt, messageOf}
+use Rattle.message.specs.Reading.{messageRules, messageAt, messageOf, tableContent}
 use Rattle.message.specs.declared.Form.the-variants.{Plain, Encrypted}
 use Rattle.units.specs.declared.Seconds.{Seconds}
 use Rattle.session.specs.Session.{validAt}
@@ -146,14 +147,16 @@ openingOf g o i =
       work = workAfter h 1 (wrapperOf i) (wrapped g i) (o .work);
     }
 
+-- a plain message gives its content whatever the work buffer holds
+plain-gives : (g : Context) (t : Seconds) (m : List ℕ) (room : ℕ) (work : List ℕ) → Permitted g Plain 507 m
+    → answerContent (answerOf (during g (g .session) t) room 1 0 m) m work ≡ accepted (tableContent m)
+plain-gives g t m room work ok =
+    ap (λ (a : Answer). answerContent a m work) (plain-answer g t m room ok)
+    ∙ message-content g Plain false 0 m m work (ok .short) (ok .clear) (take-length m)
+
 pub one-gives : (g : Context) (o : Occasion) (i : Item) → PermittedItem g i → Fit g o i → Gives i (openingOf g o i)
 unfolding opened
-one-gives g o (plain m) ok fit =
-    record {
-      content =
-          ap (λ (a : Answer). answerContent a m (workAfter (during g (g .session) (o .time)) 1 0 m (o .work))) (plain-answer g (o .time) m (length (o .work)) ok)
-          ∙ message-content g Plain false 0 m m (workAfter (during g (g .session) (o .time)) 1 0 m (o .work)) (ok .short) (ok .clear) (take-length m);
-    }
+one-gives g o (plain m) ok fit = record { content = plain-gives g (o .time) m (length (o .work)) _ ok }
 one-gives g o (sealed pn m) ok fit =
     let p : List ℕ = wrapped g (sealed pn m) in
     let w : List ℕ = plainText m ++ drop (16 * blocksIn p) (o .work) in
