@@ -13,7 +13,7 @@ use Rattle.wire.specs.Choice.{pick}
 use Rattle.wire.proofs.Choice.{pick-all, true-false, or-fails}
 use Rattle.line.specs.Receive.{busy, reading, holding, stepTo, stepOf}
 use Rattle.line.specs.Moves.{moveOf, takenMove, storedMove, keep, storeAfter, eventOf, ActsOn}
-use Rattle.line.specs.Feed.{fed, fedTo, silent, Feeds, Skips, Passes}
+use Rattle.line.specs.Feed.{Fed, fed, fedTo, silent, Feeds, Skips, Passes}
 use Rattle.line.specs.Line.{Emitted, emitted, run, after}
 use Rattle.line.proofs.Gives.{step-gives}
 use Rattle.line.proofs.Run.{run-one, run-append}
@@ -22,7 +22,6 @@ use Rattle.line.specs.declared.Action.the-variants.{Put}
 use Rattle.line.specs.declared.Progress.{Progress}
 use Rattle.line.specs.declared.Move.{Move}
 use Rattle.line.specs.declared.Receiver.{Receiver}
-use Rattle.line.specs.declared.Fed.{Fed}
 use Rattle.line.specs.declared.Event.{Event}
 use Rattle.line.specs.declared.Event.the-variants.{Nothing, Frame, Refused}
 use Rattle.line.specs.declared.Step.{Step}

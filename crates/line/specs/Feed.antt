@@ -9,7 +9,6 @@ use Rattle.line.specs.Receive.{stepOf, busy, reading, holding}
 use Rattle.line.specs.Line.{emitted, run}
 use Rattle.line.specs.declared.Progress.{Progress}
 use Rattle.line.specs.declared.Receiver.{Receiver}
-use Rattle.line.specs.declared.Fed.{Fed}
 use Rattle.line.specs.declared.Event.{Event}
 use Rattle.line.specs.declared.Event.the-variants.{Nothing, Frame, Refused}
 
@@ -17,6 +16,12 @@ abbrev pub silent : Event → Bool
 silent Nothing = true
 silent (Frame major minor wrapper len) = false
 silent (Refused n) = false
+
+-- the receiver after some bytes, the event that they ended with, and the place behind them
+pub record Fed : Type 0 where
+  pub receiver : Receiver
+  pub event : Event
+  pub used : ℕ
 
 -- the bytes, of which the first is counted n, one step each, up to the first event or to their end
 unfoldable pub fed : ℕ → List ℕ → Receiver → Fed

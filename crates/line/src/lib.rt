@@ -330,13 +330,6 @@ impl Receiver {
     }
 }
 
-// The receiver after some bytes, the event that they ended with, and the place behind them.
-pub struct Fed {
-    pub receiver: Receiver,
-    pub event: Event,
-    pub used: usize,
-}
-
 // Whether there is no event.
 fn silent(e: Event) -> bool
     ensures { λ r. ⌜ r ≡ feeding.silent e ⌝ }
@@ -513,24 +506,6 @@ pub fn advance(start: Progress, store: &mut [u8; 512], s: &[u8], from: usize) ->
         progress,
         event: Event::Nothing,
         used: i,
-    }
-}
-
-impl Receiver {
-    // The bytes of `s` from `from` on, up to the first event or to the end, into a record by value.
-    pub fn feed(self, s: &[u8], from: usize) -> Fed
-        ensures { λ f. ⌜ Feeds (now (s .entry)) from self f ⌝ }
-    {
-        let start = self.progress;
-        let mut store = self.store;
-        let a = advance(start, &mut store, s, from);
-        let progress = a.progress;
-        let event = a.event;
-        Fed {
-            receiver: Receiver { progress, store },
-            event,
-            used: a.used,
-        }
     }
 }
 

@@ -114,7 +114,7 @@ normal : (m : Mode) → isNormal m ≡ true → m ≡ Normal
 normal Normal e = refl
 normal Setup e = true-false (sym e)
 
-permitted-item : (g : Context) (i : Item) → may g i ≡ true → PermittedItem g i
+pub permitted-item : (g : Context) (i : Item) → may g i ≡ true → PermittedItem g i
 permitted-item g (plain m) e = permitted g Plain 507 m e
 permitted-item g (sealed n m) e =
     let a = and-holds (fits g Encrypted 490 m) _ e in

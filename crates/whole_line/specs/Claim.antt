@@ -10,18 +10,25 @@ use Rattle.line.specs.declared.Receiver.{Receiver}
 use Rattle.bridge.specs.declared.Context.{Context}
 use Rattle.whole_line.specs.Listed.{SentItem, items, Made, onLine, lineOf, AllWritten, Occasion, Ready, openings, AllGive}
 
--- What becomes of a list of one message or more, from its first start byte on. r is the receiver as that byte finds it.
-pub record Read (g : Context) (ts : List SentItem) (r : Receiver) (at : ℕ → Occasion) : Type 0 where
+-- What becomes of a list of one message or more, from its first start byte on: of the line that it makes, over a receiver by what bytes give and the
+-- record after them. r is the receiver as that byte finds it.
+pub record ReadBy
+    (whole : List ℕ) (run : List ℕ → Receiver → List line.Emitted) (after : List ℕ → Receiver → Receiver)
+    (g : Context) (ts : List SentItem) (r : Receiver) (at : ℕ → Occasion) : Type 0 where
   -- given room, each is written, as one frame
   pub writes : AllWritten g (items ts)
   -- the line's first byte is the first frame's start byte
-  pub begins : lineOf g ts ≡ 0x7E ∷ drop 1 (lineOf g ts)
+  pub begins : whole ≡ 0x7E ∷ drop 1 whole
   -- at that byte: 1 where a frame was unfinished, else nothing
-  pub starts : line.run (0x7E ∷ []) r ≡ pick (busy (r .progress)) (line.refusal 1 ∷ []) []
+  pub starts : run (0x7E ∷ []) r ≡ pick (busy (r .progress)) (line.refusal 1 ∷ []) []
   -- behind that byte: exactly those frames, in order, and nothing else
-  pub hands : line.run (drop 1 (lineOf g ts)) (line.after (0x7E ∷ []) r) ≡ line.framesOf (onLine g ts)
+  pub hands : run (drop 1 whole) (after (0x7E ∷ []) r) ≡ line.framesOf (onLine g ts)
   -- what is handed out from that byte on, opened in order, gives the messages, each its own
-  pub gives : AllGive (items ts) (openings g at 0 (g .session) (line.run (lineOf g ts) r))
+  pub gives : AllGive (items ts) (openings g at 0 (g .session) (run whole r))
+
+-- the line of what the frame writer writes, and the receiver
+abbrev pub Read : Context → List SentItem → Receiver → (ℕ → Occasion) → Type 0
+Read g ts r at = ReadBy (lineOf g ts) line.run line.after g ts r at
 
 -- g: keys, mode, whether encryption is required, and the session in use.
 pub record OneWay (g : Context) : Type 0 where

@@ -1,3 +1,4 @@
 pub mod Listed
 pub mod Claim
+pub mod Wrong
 pub mod Bench
