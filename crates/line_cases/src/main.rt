@@ -1,220 +1,270 @@
-// Hand-made captures through the receiver: what each gives, and at how many places of it a cut between two reads changes that.
+// Captures through the receiver: what `receive` hands out byte by byte, whether the bytes in one read or cut into two give the same, and the record after
+// them; and what the frame writer leaves in its room.
+//
+// A line of standard input has fields with | between:
+//   LABEL|c|BYTES                  a capture, to a fresh record
+//   LABEL|r|PROGRESS|STORE|BYTES   to a record: whether it is inside a frame, escaped, low, got and size, with spaces between; and the bytes of its store
+//   LABEL|w|TYPE|PAYLOAD|ROOM      the frame writer, with so many bytes EE for its room
 ghost use Prim.Native.Nat.{_≤_, _<_};
 ghost use lib.ListN.{length};
-use libc::STDOUT_FILENO;
+ghost use Rattle.line.specs.Line.{Received};
 use line::Event;
+use line::Progress;
 use line::Receiver;
+use line::Step;
+use text::reading;
 use wire::Part;
 use wire::Written;
 
-const HELLO: [u8; 11] = [0x7E, 8, 0, 1, 0, 0, 0, 0, 0, 0xB0, 0x4B];
-
-fn print(text: &[u8]) {
-    io::write_all(STDOUT_FILENO, text);
+// The record after some bytes, and the place behind the text of their events.
+struct Run {
+    receiver: Receiver,
+    at: usize,
 }
 
-fn number(n: u64) {
-    io::print_decimal(STDOUT_FILENO, n);
+fn front(s: &[u8], n: usize) -> &[u8] {
+    wire::part_of(s, Part { start: 0, len: n })
 }
 
-// Prints ` frame TYPE LENGTH` or ` refused N`.
-fn show(e: Event) {
-    match e {
-        Event::Nothing => (),
-        Event::Frame {
-            major: _,
-            minor: _,
-            wrapper,
-            len,
-        } => {
-            print(b" frame ");
-            number(wrapper as u64);
-            print(b" ");
-            number(len as u64);
-        }
-        Event::Refused(n) => {
-            print(b" refused ");
-            number(n as u64);
-        }
-    }
-}
-
-fn show_if(shown: bool, e: Event) {
-    if shown {
-        show(e);
-    }
-}
-
-// A number for an event, 0 for none.
-fn code(e: Event) -> u64
-    ensures { λ r. ⌜ r ≤ 1000000 ⌝ }
+// The place behind the bytes that are the same as the one at a place.
+fn run_end(s: &[u8], from: usize) -> usize
+    requires { ⌜ from < length (now s) ⌝ }
+    ensures { λ r. ⌜ (from < r) × (r ≤ length (now (s .entry))) ⌝ }
 {
+    let b = s[from];
+    let mut i = from + 1;
+    while i < s.len() {
+        if s[i] != b {
+            return i;
+        }
+        i += 1;
+    }
+    i
+}
+
+// Bytes as ` 7e*3 5c*1`.
+fn runs(out: &mut [u8], at: usize, s: &[u8]) -> usize {
+    let mut behind = at;
+    let mut i: usize = 0;
+    while i < s.len() {
+        let end = run_end(s, i);
+        let space = text::put(out, behind, b" ");
+        let byte = text::hex(out, space, wire::part_of(s, Part { start: i, len: 1 }));
+        behind = text::named(out, byte, b"*", (end - i) as u64);
+        i = end;
+    }
+    behind
+}
+
+// ` frame MAJOR MINOR TYPE LENGTH` and the payload, or ` refused N`.
+fn event(out: &mut [u8], at: usize, e: Event, store: &[u8; 512]) -> usize {
     match e {
-        Event::Nothing => 0,
+        Event::Nothing => at,
         Event::Frame {
             major,
             minor,
             wrapper,
             len,
-        } => 1000
-            + (major as u64)
-            + (minor as u64) * 3
-            + (wrapper as u64) * 1000
-            + ((len % 1000) as u64),
-        Event::Refused(n) => n as u64,
+        } => {
+            let numbers = [major as u64, minor as u64, wrapper as u64, len as u64];
+            let name = text::put(out, at, b" frame");
+            let behind = text::decimals(out, name, &numbers);
+            runs(out, behind, line::frame_payload(store, len))
+        }
+        Event::Refused(n) => text::named(out, at, b" refused ", n as u64),
     }
 }
 
-// One number for the events so far, with one event more.
-fn mixed(h: u64, e: Event) -> u64
-    requires { ⌜ h < 1000000007 ⌝ }
-    ensures { λ r. ⌜ r < 1000000007 ⌝ }
+// One byte to a record behind a reference.
+fn received(mut receiver: Receiver, b: u8) -> Step
+    ensures { λ t. ⌜ Received receiver b (t .receiver) (t .event) ⌝ }
 {
-    let c = code(e);
-    if c == 0 {
-        return h;
+    let event = line::receive(&mut receiver, b);
+    Step { receiver, event }
+}
+
+// The bytes one by one.
+fn one_by_one(start: Receiver, s: &[u8], out: &mut [u8]) -> Run {
+    let mut receiver = start;
+    let mut at: usize = 0;
+    let mut i: usize = 0;
+    while i < s.len() {
+        let t = received(receiver, s[i]);
+        let next = t.receiver;
+        receiver = next;
+        let store = receiver.store;
+        let e = t.event;
+        at = event(out, at, e, &store);
+        i += 1;
     }
-    (h * 31 + c) % 1000000007
+    Run { receiver, at }
 }
 
-// The receiver after some bytes, and one number for the events so far.
-struct ReceivedAll {
-    receiver: Receiver,
-    events: u64,
-}
-
-// The receiver gets all bytes of a slice; its events are printed where `shown` is true.
-fn receive_all(r: Receiver, events: u64, s: &[u8], shown: bool) -> ReceivedAll
-    requires { ⌜ events < 1000000007 ⌝ }
-    ensures { λ h. ⌜ h .events < 1000000007 ⌝ }
-{
-    let mut progress = r.progress;
-    let mut store = r.store;
-    let mut h = events;
-    let mut i = 0;
+// The bytes of one read.
+fn one_read(start: Run, s: &[u8], out: &mut [u8]) -> Run {
+    let receiver = start.receiver;
+    let mut progress = receiver.progress;
+    let mut store = receiver.store;
+    let mut at = start.at;
+    let mut i: usize = 0;
     while i < s.len() {
         let a = line::advance(progress, &mut store, s, i);
         let e = a.event;
-        show_if(shown, e);
-        h = mixed(h, e);
+        at = event(out, at, e, &store);
         let after = a.progress;
         progress = after;
         i = a.used;
     }
-    ReceivedAll {
+    Run {
         receiver: Receiver { progress, store },
-        events: h,
+        at,
     }
 }
 
-// The events of a slice that is cut in two.
-fn receive_cut(s: &[u8], cut: usize) -> u64
-    requires { ⌜ cut ≤ length (now s) ⌝ }
+fn flag(b: bool) -> u64
+    ensures { λ r. ⌜ r ≤ 1 ⌝ }
 {
-    let start = Part { start: 0, len: cut };
+    if b { 1 } else { 0 }
+}
+
+// 1 where the bytes in two reads give another text, else 0.
+fn differs(receiver: Receiver, s: &[u8], cut: usize, whole: &[u8]) -> u64
+    requires { ⌜ cut ≤ length (now s) ⌝ }
+    ensures { λ r. ⌜ r ≤ 1 ⌝ }
+{
+    let mut out = [0u8; 4096];
     let rest = Part {
         start: cut,
         len: s.len() - cut,
     };
-    let first = receive_all(line::fresh(), 0, wire::part_of(s, start), false);
-    let receiver = first.receiver;
-    let second = receive_all(receiver, first.events, wire::part_of(s, rest), false);
-    second.events
+    let first = one_read(Run { receiver, at: 0 }, front(s, cut), &mut out);
+    let second = one_read(first, wire::part_of(s, rest), &mut out);
+    let n = second.at;
+    flag(!check::same(front(&out, n), whole))
 }
 
-// 1 where two numbers differ, else 0.
-fn differs(a: u64, b: u64) -> u64
-    ensures { λ r. ⌜ r ≤ 1 ⌝ }
-{
-    if a == b { 0 } else { 1 }
-}
-
-// How many cuts of a slice give other events than the whole.
-fn changed(s: &[u8], whole: u64) -> u64 {
+// How many cuts give another text than the bytes one by one; one read is a cut before the first.
+fn changed(receiver: Receiver, s: &[u8], whole: &[u8]) -> u64 {
     let mut n: u64 = 0;
-    let mut cut = 0;
+    let mut cut: usize = 0;
     while cut < s.len() {
-        n += differs(whole, receive_cut(s, cut));
+        n += differs(receiver, s, cut, whole);
         cut += 1;
     }
     n
 }
 
-// One line: the name, the events, the count of cuts that change them.
-fn list(name: &[u8], s: &[u8]) {
-    print(name);
-    print(b":");
-    let whole = receive_all(line::fresh(), 0, s, true);
-    print(b"; changed by ");
-    number(changed(s, whole.events));
-    print(b" cuts\n");
+// `; record INSIDE ESCAPED LOW GOT SIZE; store` and the store's bytes.
+fn record(out: &mut [u8], at: usize, r: Receiver) -> usize {
+    let p = r.progress;
+    let numbers = [
+        flag(p.inside),
+        flag(p.escaped),
+        p.low as u64,
+        p.got as u64,
+        p.size as u64,
+    ];
+    let name = text::put(out, at, b"; record");
+    let behind = text::decimals(out, name, &numbers);
+    let store = r.store;
+    let named = text::put(out, behind, b"; store");
+    runs(out, named, &store)
 }
 
-// A capture and the hello frame behind it.
-fn list_before_hello(name: &[u8], s: &[u8]) {
-    let mut room = [0u8; 64];
-    wire::write3(s, &HELLO, b"", &mut room);
-    let whole = Part {
-        start: 0,
-        len: s.len() % 32 + 11,
-    };
-    list(name, wire::part_of(&room, whole));
+// A capture, to a record: the events, the cuts, and the record after it.
+fn capture(out: &mut [u8], at: usize, start: Receiver, s: &[u8]) -> usize {
+    let mut events = [0u8; 4096];
+    let whole = one_by_one(start, s, &mut events);
+    let n = whole.at;
+    let behind = text::put(out, at, front(&events, n));
+    let cuts = changed(start, s, front(&events, n));
+    let after = text::named(out, behind, b"; changed by cuts ", cuts);
+    let receiver = whole.receiver;
+    record(out, after, receiver)
 }
 
-// A frame as the frame writer writes it.
-fn list_frame(name: &[u8], wrapper: u8, payload: &[u8]) {
-    let mut room = [0u8; 1100];
-    match frame::write_frame(wrapper, payload, &mut room) {
-        Written::Wrote(n) => {
-            let whole = Part { start: 0, len: n };
-            list(name, wire::part_of(&room, whole));
-        }
-        Written::Refused(n) => {
-            print(name);
-            print(b": writer refused ");
-            number(n as u64);
-            print(b"\n");
-        }
+fn number(line: &[u8], sep: u8, k: usize) -> usize {
+    reading::number(reading::field(line, sep, k)) as usize
+}
+
+// The record that a line names.
+fn named_record(line: &[u8]) -> Receiver {
+    let p = reading::field(line, b'|', 2);
+    let mut store = [0u8; 512];
+    reading::bytes(&mut store, 0, reading::field(line, b'|', 3));
+    Receiver {
+        progress: Progress {
+            inside: number(p, b' ', 0) == 1,
+            escaped: number(p, b' ', 1) == 1,
+            low: (number(p, b' ', 2) % 256) as u8,
+            got: number(p, b' ', 3),
+            size: number(p, b' ', 4),
+        },
+        store,
     }
 }
 
-// A room that is one byte too short.
-fn no_room() {
-    let mut room = [0x55u8; 10];
-    let payload = [0, 0, 0];
-    print(b"hello in 10 bytes:");
-    match frame::write_frame(0, &payload, &mut room) {
-        Written::Wrote(_) => print(b" written\n"),
-        Written::Refused(n) => {
-            print(b" writer refused ");
-            number(n as u64);
-            print(b", first byte ");
-            number(wire::wide(room[0]) as u64);
-            print(b"\n");
-        }
+fn answer(out: &mut [u8], at: usize, w: Written) -> usize {
+    match w {
+        Written::Wrote(n) => text::named(out, at, b" wrote ", n as u64),
+        Written::Refused(n) => text::named(out, at, b" refused ", n as u64),
     }
+}
+
+// What the frame writer answers, and all of its room afterwards.
+fn written(out: &mut [u8], at: usize, wrapper: u8, payload: &[u8], room: &mut [u8]) -> usize {
+    let behind = answer(out, at, frame::write_frame(wrapper, payload, room));
+    let name = text::put(out, behind, b"; room");
+    runs(out, name, room)
+}
+
+fn writer(out: &mut [u8], at: usize, line: &[u8]) -> usize {
+    let mut payload = [0u8; 512];
+    let n = reading::bytes(&mut payload, 0, reading::field(line, b'|', 3));
+    let wrapper = (number(line, b'|', 2) % 256) as u8;
+    let mut room = [0xEEu8; 1100];
+    let lent = number(line, b'|', 4) % 1101;
+    written(out, at, wrapper, front(&payload, n), &mut room[..lent])
+}
+
+// What comes of a line's case.
+fn outcome(out: &mut [u8], at: usize, line: &[u8]) -> usize {
+    let mut bytes = [0u8; 2048];
+    match wire::byte_at(reading::field(line, b'|', 1), 0) {
+        b'c' => {
+            let n = reading::bytes(&mut bytes, 0, reading::field(line, b'|', 2));
+            capture(out, at, line::fresh(), front(&bytes, n))
+        }
+        b'r' => {
+            let n = reading::bytes(&mut bytes, 0, reading::field(line, b'|', 4));
+            capture(out, at, named_record(line), front(&bytes, n))
+        }
+        b'w' => writer(out, at, line),
+        _ => text::put(out, at, b" unreadable"),
+    }
+}
+
+// One line of the output.
+fn case(line: &[u8]) {
+    let mut out = [0u8; 8192];
+    let label = text::put(&mut out, 0, reading::field(line, b'|', 0));
+    let start = text::put(&mut out, label, b":");
+    let end = outcome(&mut out, start, line);
+    let all = text::put(&mut out, end, b"\n");
+    io::write_all(1, front(&out, all));
 }
 
 fn main() {
-    list(b"hello", &HELLO);
-    list_before_hello(b"cut by a start byte", &[0x7E, 8, 0, 1]);
-    list_before_hello(b"start after start", &[0x7E]);
-    list_before_hello(b"5C 7E", &[0x7E, 8, 0x5C]);
-    list_before_hello(b"5C 5C", &[0x7E, 0x5C, 0x5C]);
-    list_before_hello(b"5C 41", &[0x7E, 0x5C, 0x41]);
-    list_before_hello(b"size 4", &[0x7E, 4, 0]);
-    list_before_hello(b"size 513", &[0x7E, 1, 2]);
-    list_before_hello(b"wrong CRC", &[0x7E, 8, 0, 1, 0, 0, 0, 0, 0, 0xB0, 0x4A]);
-    list_before_hello(b"noise", &[0x41, 0, 0xFF, 0x5C, 0x3E]);
-    list_before_hello(
-        b"hello, noise",
-        &[0x7E, 8, 0, 1, 0, 0, 0, 0, 0, 0xB0, 0x4B, 0x5C, 0x41],
-    );
-    list_frame(b"size 5", 0, b"");
-    list_frame(b"size 512", 0, &[1; 507]);
-    list_frame(b"escapes", 128, &[0x7E, 0x5C, 0x40, 0x3E, 0x1C, 0x7E]);
-    list_frame(b"escapes throughout", 128, &[0x7E; 507]);
-    list_frame(b"payload of 508", 0, &[1; 508]);
-    list_frame(b"wrapper type 1", 1, &[0; 3]);
-    no_room();
+    let mut buffer = io::large_buffer();
+    let n = io::read_full(0, &mut buffer);
+    cases(&buffer[..n]);
+}
+
+fn cases(s: &[u8]) {
+    let n = reading::count(s, b'\n');
+    let mut k: usize = 0;
+    while k < n {
+        case(reading::field(s, b'\n', k));
+        k += 1;
+    }
 }
