@@ -1,4 +1,4 @@
-"""Writes a long capture and what the line lister must print for it: crates/long_listing/stdin and stdout. Usage: bench/line/long.py
+"""Writes a long capture and what the line lister must print for it: crates/long_listing/stdin and stdout. Usage: python3 bench/line/long.py
 
 The capture is made of frames, noise and faults one by one, and each adds its own lines, so that the output is known without decoding.
 It takes three reads of 65536 bytes and several output buffers in each. The first seam lies between 5C and 3E of a frame, the second
