@@ -193,13 +193,19 @@ module _ (s : List ℕ) (from : ℕ) (r : Receiver) (f : Fed) (e : f ≡ fed fro
   pub feeds : Feeds s from r f
   feeds = record { answer = e; emits = one-by-one .emits }
 
+  -- the receiver after the bytes that were used
+  pub feeds-after : f .receiver ≡ after (take (f .used - from) (drop from s)) r
+  feeds-after = one-by-one .receiver
+
+  pub feeds-forward : from ≤ f .used
+  feeds-forward = subst (λ (x : Fed). from ≤ x .used) (sym e) (used-from from (drop from s) r)
+
   -- What a feed hands out, and then what the rest of the slice gives, is what the bytes give one by one.
   pub feeds-at : run (drop from s) r ≡ emitted (f .event) (f .receiver .store) ++ run (drop (f .used) s) (f .receiver)
   feeds-at =
       let k : ℕ = f .used - from in
       let d : List ℕ = drop from s in
-      let h : from ≤ f .used = subst (λ (x : Fed). from ≤ x .used) (sym e) (used-from from (drop from s) r) in
-      let z : from + k ≡ f .used = omega arith in
+      let z : from + k ≡ f .used = omega (arith, feeds-forward) in
       sym (ap (λ (l : List ℕ). run l r) (take-append-drop k d))
       ∙ run-append (take k d) (drop k d) r
       ∙ ap₂ (λ (x : List Emitted) (y : Receiver). x ++ run (drop k d) y) (sym (one-by-one .emits)) (sym (one-by-one .receiver))

@@ -40,6 +40,11 @@ run-append (x ∷ a) b r =
     let r′ : Receiver = stepOf r x .receiver in
     ap (λ (z : List Emitted). gives r x ++ z) (run-append a b r′) ∙ sym (append-assoc (gives r x) (run a r′) (run b (after a r′)))
 
+pub after-append : (a b : List ℕ) (r : Receiver) → after (a ++ b) r ≡ after b (after a r)
+unfolding after
+after-append [] b r = refl
+after-append (x ∷ a) b r = after-append a b (stepOf r x .receiver)
+
 -- ---- refusals 1 to 4 only
 one-to-four : (n : ℕ) → 1 ≤ n → n ≤ 4 → OneToFour (refusal n ∷ [])
 one-to-four n l u = (l, u, tt)

@@ -1,7 +1,7 @@
 -- `list_all` meets its contract. Assumes nothing.
 use borrow.Author.Needs.{needs}
-use Rattle.line_lister.proofs.list_all.Statement.{statement}
-use Rattle.line_lister.proofs.list_all.Tie as tie
+use Rattle.listing.proofs.list_all.Statement.{statement}
+use Rattle.listing.proofs.list_all.Tie as tie
 
 abbrev Inv-loop : tie.InvT-loop
 Inv-loop now₀ turns₀ now turns = Unit {0}
@@ -17,6 +17,7 @@ list-all-spec =
     μ-loop
     (λ c κs. search needs)
     (λ c. search needs)
+    (λ c κs. search needs)
     (λ c κs. search needs)
     (λ c. search needs)
     (λ c. search needs)

@@ -1,10 +1,10 @@
 -- `write_out` meets its contract. Assumes nothing.
-use mathlib.Core.Path.{sym}
 use native.Mathlib.Omega.{arith}
 use lib.Seq.{length-take-le}
+use mathlib.Core.Path.{sym}
 use borrow.Author.Needs.{needs}
-use Rattle.line_lister.proofs.write_out.Statement.{statement}
-use Rattle.line_lister.proofs.write_out.Tie as tie
+use Rattle.listing.proofs.write_out.Statement.{statement}
+use Rattle.listing.proofs.write_out.Tie as tie
 
 slice-aggregate-write-all : tie.Need-slice-aggregate-write-all
 slice-aggregate-write-all c = sym (length-take-le _ _ (omega arith))

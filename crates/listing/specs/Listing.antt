@@ -1,0 +1,57 @@
+-- The line of each event, and what a part of a capture lists.
+use Prim.Native.Nat.{ℕ, _-_, _≤_}
+use mathlib.Core.Path.{_≡_, refl}
+use mathlib.Core.List.{List, [], _∷_, _++_}
+use lib.ListN.{length, take, drop}
+use Rattle.text.specs.Ascii.{ascii}
+use Rattle.text.specs.Digits.{decimal, decimalIn}
+use Rattle.text.specs.Puts.{Puts}
+use Rattle.line.specs.Line.{Emitted, refusal, frame, run, after}
+use Rattle.line.specs.declared.Receiver.{Receiver}
+use Rattle.line.specs.declared.Event.{Event}
+use Rattle.line.specs.declared.Event.the-variants.{Nothing, Frame, Refused}
+
+-- frame TYPE LENGTH
+abbrev pub frameLine : ℕ → ℕ → List ℕ
+frameLine wrapper len = ascii "frame " ++ decimal wrapper ++ ascii " " ++ decimal len ++ ascii "\n"
+
+-- refused N
+abbrev pub refusedLine : ℕ → List ℕ
+refusedLine n = ascii "refused " ++ decimal n ++ ascii "\n"
+
+-- an event's line, nothing where there is none
+abbrev pub eventText : Event → List ℕ
+eventText Nothing = []
+eventText (Frame major minor wrapper len) = frameLine wrapper len
+eventText (Refused n) = refusedLine n
+
+-- the lines of all that is handed out
+unfoldable pub linesOf : List Emitted → List ℕ
+linesOf [] = []
+linesOf (frame major minor wrapper len payload ∷ es) = frameLine wrapper len ++ linesOf es
+linesOf (refusal n ∷ es) = refusedLine n ++ linesOf es
+
+-- the bytes of a capture between two places
+abbrev pub between : ℕ → ℕ → List ℕ → List ℕ
+between from to s = take (to - from) (drop from s)
+
+-- what a function promises that lists a part of a capture: the receiver after its bytes, and at the front of the room the lines of all that
+-- they give one by one, none of them cut
+pub record Lists (s : List ℕ) (from : ℕ) (r : Receiver) (to : ℕ) (r′ : Receiver) (room : List ℕ) (at : ℕ) (left : List ℕ) : Type 0 where
+  pub forward : from ≤ to
+  pub receiver : r′ ≡ after (between from to s) r
+  pub puts : Puts (linesOf (run (between from to s) r)) 0 room at left
+  pub whole : at ≡ length (linesOf (run (between from to s) r))
+
+-- ---- frame 128 507, frame 0 3, refused 3
+example-long : eventText (Frame 1 0 128 507) ≡ ascii "frame 128 507\n"
+unfolding decimalIn
+example-long = refl
+
+example-short : eventText (Frame 1 0 0 3) ≡ ascii "frame 0 3\n"
+unfolding decimalIn
+example-short = refl
+
+example-refused : eventText (Refused 3) ≡ ascii "refused 3\n"
+unfolding decimalIn
+example-refused = refl
