@@ -1,4 +1,6 @@
 // Texts of programs: bytes, decimal numbers and bytes in base 16 put into a lent room, and the fields of a line read back.
+pub mod reading;
+
 ghost use mathlib.Core.Path.{_≡_};
 ghost use mathlib.Core.List.{_++_, _∷_, []};
 ghost use Prim.Native.Nat.{_<_, _≤_};
