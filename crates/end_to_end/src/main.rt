@@ -1,129 +1,113 @@
 // A list of messages, plain and sealed, end to end: sealed, framed, with noise between, received byte by byte by a receiver that is
 // caught inside an unfinished frame, and opened in order, each with the session that the last one left. Then packets of a phone, sealed and
-// opened at each level.
+// opened at each level. Standard input lists them, an item each: NAME|KIND|NUMBERS|BYTES.
+// Kinds: n bytes as they are, p a plain message, 1 and 2 a message sealed for the first or the second session under a packet nonce's number;
+// r the line is received; c a phone's packet with its level, mode and number.
+mod opening;
 mod phone;
-mod print;
-mod sending;
 
-use crate::sending::Line;
 use access::Mode;
-use bridge::Answer;
-use bridge::Context;
-use bridge::Place;
-use line::Event;
-use line::Progress;
-use line::Receiver;
-use message::Message;
-use session::Session;
-use units::Seconds;
+use session::Key;
+use session::Keys;
+use text::reading;
 use wire::Part;
+use wire::Written;
+
+// Its bytes ask for escapes.
+const FIRST: [u8; 5] = [0x7E, 0x5C, 1, 2, 3];
+
+const SECOND: [u8; 5] = [0xA1, 0xA2, 0xA3, 0xA4, 0xA5];
 
 fn main() {
+    let mut buffer = io::buffer();
+    let n = io::read_full(0, &mut buffer);
+    items(&buffer[..n]);
+    io::write_all(1, b"end\n");
+}
+
+fn items(s: &[u8]) {
     let mut line = [0u8; 8192];
-    let a = sending::plain_list(&mut line, 0);
-    let b = sending::sealed_list(&mut line, a);
-    let c = sending::broken_list(&mut line, b);
-    let n = sending::long_list(&mut line, c);
-    receive_front(&line, n);
-    phone::packets();
-    print::text(b"end\n");
+    let mut at: usize = 0;
+    let n = reading::count(s, b'\n');
+    let mut k: usize = 0;
+    while k < n {
+        at = item(&mut line, at, reading::field(s, b'\n', k));
+        k += 1;
+    }
 }
 
-// A receiver inside a frame of size 40 of which five bytes have come, its store full of other bytes.
-fn caught() -> Receiver {
-    Receiver {
-        progress: Progress {
-            inside: true,
-            escaped: false,
-            low: 0,
-            got: 7,
-            size: 40,
+// What an item puts on the line from a place on; the place behind it.
+fn item(line: &mut [u8], at: usize, s: &[u8]) -> usize {
+    let mut room = [0u8; 512];
+    let n = reading::bytes(&mut room, 0, reading::field(s, b'|', 3));
+    let bytes = wire::part_of(&room, Part { start: 0, len: n });
+    let v = reading::field(s, b'|', 2);
+    match wire::byte_at(reading::field(s, b'|', 1), 0) {
+        b'n' => text::put(line, at, bytes),
+        b'p' => framed(line, at, 0, bytes),
+        b'1' => sealed(line, at, FIRST, nonce(v), bytes),
+        b'2' => sealed(line, at, SECOND, nonce(v), bytes),
+        b'r' => {
+            opening::receive(wire::part_of(line, Part { start: 0, len: at }));
+            at
+        }
+        b'c' => {
+            phone::packet(v, bytes);
+            at
+        }
+        _ => at,
+    }
+}
+
+// The packet nonce that begins with a number; its other bytes ask for escapes.
+fn nonce(v: &[u8]) -> [u8; 3] {
+    [(reading::number(v) % 256) as u8, 0x7E, 0x5C]
+}
+
+// A line of a number behind its name.
+fn told(name: &[u8], n: u8) {
+    let mut out = [0u8; 64];
+    let a = text::named(&mut out, 0, name, n as u64);
+    let b = text::put(&mut out, a, b"\n");
+    io::write_all(1, wire::part_of(&out, Part { start: 0, len: b }));
+}
+
+fn framed(line: &mut [u8], at: usize, wrapper: u8, payload: &[u8]) -> usize {
+    let mut room = [0u8; 1100];
+    match frame::write_frame(wrapper, payload, &mut room) {
+        Written::Wrote(n) => text::put(line, at, wire::part_of(&room, Part { start: 0, len: n })),
+        Written::Refused(n) => {
+            told(b"frame writer refused ", n);
+            at
+        }
+    }
+}
+
+// The admin key alone is held.
+fn keys() -> Keys {
+    Keys {
+        admin: Key {
+            held: true,
+            bytes: *b"\x10\x11\x12\x13\x14\x15\x16\x17\x18\x19\x1a\x1b\x1c\x1d\x1e\x1f",
         },
-        store: [0xEE; 512],
+        member: Key::none(),
+        basic: Key::none(),
+        setup: Key::none(),
     }
 }
 
-fn receive_front(line: &Line, n: usize) {
-    receive(caught(), wire::part_of(line, Part { start: 0, len: n }));
-}
-
-fn receive(start: Receiver, line: &[u8]) {
-    let mut receiver = start;
-    let mut session = Session::none();
-    let mut i: usize = 0;
-    while i < line.len() {
-        let s = receiver.step(line[i]);
-        let next = s.receiver;
-        receiver = next;
-        let event = s.event;
-        let after = handle(event, receiver, session);
-        session = after;
-        i += 1;
-    }
-}
-
-// Opens a frame or writes a refusal; the session after it.
-fn handle(event: Event, receiver: Receiver, session: Session) -> Session {
-    match event {
-        Event::Nothing => session,
-        Event::Frame {
-            major,
-            minor,
-            wrapper,
-            len,
-        } => {
-            let store = receiver.store;
-            open(
-                major,
-                minor,
-                wrapper,
-                line::frame_payload(&store, len),
-                session,
-            )
-        }
-        Event::Refused(n) => {
-            print::number(b"receiver refused ", n as u64);
-            print::text(b"\n");
-            session
+fn sealed(line: &mut [u8], at: usize, session: [u8; 5], nonce: [u8; 3], message: &[u8]) -> usize {
+    let mut room = [0u8; 512];
+    match envelope::seal(keys(), Mode::Normal, nonce, session, message, &mut room) {
+        Written::Wrote(n) => framed(
+            line,
+            at,
+            128,
+            wire::part_of(&room, Part { start: 0, len: n }),
+        ),
+        Written::Refused(n) => {
+            told(b"sealer refused ", n);
+            at
         }
     }
-}
-
-// The work buffer holds other bytes at each opening.
-fn open(major: u8, minor: u8, wrapper: u8, payload: &[u8], session: Session) -> Session {
-    let mut work = [0xEEu8; 496];
-    let context = Context {
-        session,
-        time: Seconds(1000),
-        keys: sending::keys(),
-        mode: Mode::Normal,
-        required: false,
-    };
-    let opened = bridge::uart::open(major, minor, wrapper, payload, context, &mut work);
-    let answer = opened.answer;
-    show(answer, payload, &work);
-    let after = opened.session;
-    after
-}
-
-fn show<'a>(answer: Answer, payload: &'a [u8], work: &'a [u8]) {
-    match answer {
-        Answer::Accepted(m, place) => accepted(m, place, payload, work),
-        Answer::Refused(r) => {
-            print::number(b"refused ", r.number as u64);
-            let reply = r.reply;
-            print::reply(reply);
-        }
-    }
-    print::text(b"\n");
-}
-
-fn accepted<'a>(m: Message, place: Place, payload: &'a [u8], work: &'a [u8]) {
-    print::message(m);
-    if place.in_work {
-        print::text(b"; deciphered");
-    } else {
-        print::text(b"; plain");
-    }
-    print::bytes(bridge::payload(payload, work, place));
 }

@@ -1,12 +1,13 @@
-// Control packets as a phone sends them: sealed with a level's key, and opened.
-use crate::print;
+// Control packets as a phone sends them: sealed with a level's key, and opened. Numbers: the level, the mode n or s, the packet nonce's number.
 use access::Level;
+use access::LevelRead;
 use access::Mode;
 use bridge::CommandAnswer;
 use bridge::Link;
 use session::Connection;
 use session::Key;
 use session::Keys;
+use text::reading;
 use wire::Part;
 use wire::Written;
 
@@ -33,9 +34,32 @@ fn link(mode: Mode) -> Link {
     }
 }
 
+fn mode_of(letter: u8) -> Mode {
+    if letter == b's' {
+        return Mode::Setup;
+    }
+    Mode::Normal
+}
+
 // One line: the level, and what the opener makes of what the sealer wrote.
-fn packet(level: Level, mode: Mode, number: u8, bytes: &[u8]) {
-    print::number(b"level ", access::level_number(level) as u64);
+pub fn packet(v: &[u8], bytes: &[u8]) {
+    let mut out = [0u8; 1024];
+    let number = (reading::number(v) % 256) as u8;
+    let a = text::named(&mut out, 0, b"level ", number as u64);
+    let b = answer(&mut out, a, number, v, bytes);
+    let n = text::put(&mut out, b, b"\n");
+    io::write_all(1, wire::part_of(&out, Part { start: 0, len: n }));
+}
+
+fn answer(out: &mut [u8], at: usize, number: u8, v: &[u8], bytes: &[u8]) -> usize {
+    match access::level_of(number) {
+        LevelRead::Known(level) => sealed(out, at, level, v, bytes),
+        LevelRead::Unknown => text::put(out, at, b": unknown"),
+    }
+}
+
+fn sealed(out: &mut [u8], at: usize, level: Level, v: &[u8], bytes: &[u8]) -> usize {
+    let mode = mode_of(wire::byte_at(reading::field(v, b' ', 1), 0));
     let k = link(mode);
     let keys = k.keys;
     let connection = k.connection;
@@ -46,73 +70,30 @@ fn packet(level: Level, mode: Mode, number: u8, bytes: &[u8]) {
         keys,
         mode,
         level,
-        [number, 0x7E, 0x5C],
+        crate::nonce(reading::field(v, b' ', 2)),
         nonce,
         validation,
         bytes,
         &mut room,
     ) {
-        Written::Wrote(n) => open(wire::part_of(&room, Part { start: 0, len: n }), k),
-        Written::Refused(n) => print::number(b": sealer refused ", n as u64),
+        Written::Wrote(n) => open(out, at, wire::part_of(&room, Part { start: 0, len: n }), k),
+        Written::Refused(n) => text::named(out, at, b": sealer refused ", n as u64),
     }
-    print::text(b"\n");
 }
 
-fn open(packet: &[u8], link: Link) {
+fn open(out: &mut [u8], at: usize, packet: &[u8], link: Link) -> usize {
     let mut work = [0xEEu8; 496];
     let opened = bridge::characteristic::open(packet, link, &mut work);
     let answer = opened.answer;
     match answer {
         CommandAnswer::Accepted(c, place) => {
-            print::text(b": ");
-            print::command(c);
-            print::text(b"; deciphered");
-            print::bytes(bridge::payload(packet, &work, place));
+            let a = text::put(out, at, b": accepted");
+            let b = content_text::command(out, a, c);
+            crate::opening::contents(out, b, place, packet, &work)
         }
         CommandAnswer::Refused(r) => {
-            print::number(b": refused ", r.number as u64);
-            let reply = r.reply;
-            print::reply(reply);
+            let a = text::put(out, at, b": ");
+            crate::opening::refused(out, a, r)
         }
     }
-}
-
-// Setup with a byte behind its keys, whose last byte is 7E.
-fn setup_packet() -> [u8; 104] {
-    let mut p = [0x11u8; 104];
-    p[0] = 5;
-    p[1] = 0;
-    p[2] = 0;
-    p[3] = 99;
-    p[4] = 0;
-    p[5] = 8;
-    p[6] = 9;
-    p[103] = 0x7E;
-    p
-}
-
-pub fn packets() {
-    packet(
-        Level::Admin,
-        Mode::Normal,
-        1,
-        b"\x05\x01\x00\x04\x00\xef\xbe\xad\xde",
-    );
-    packet(
-        Level::Member,
-        Mode::Normal,
-        2,
-        b"\x05\x03\x00\x09\x00\x07\x00\x02\x01\x01\x00\xaa\xbb\xcc",
-    );
-    packet(
-        Level::Basic,
-        Mode::Normal,
-        3,
-        b"\x05\x15\x00\x05\x00\x02\x03\x64\x04\x00",
-    );
-    packet(Level::Basic, Mode::Normal, 4, b"\x05\x0a\x00\x00\x00");
-    packet(Level::Setup, Mode::Setup, 5, b"\x05\x14\x00\x01\x00\x64");
-    let setup = setup_packet();
-    packet(Level::Setup, Mode::Setup, 6, &setup);
-    packet(Level::Setup, Mode::Normal, 7, &setup);
 }

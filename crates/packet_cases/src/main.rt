@@ -1,41 +1,48 @@
-// Reads the packets and messages that standard input lists, and prints what comes of each; then what the writers make of a few.
-mod print;
+// Prints what comes of the cases that standard input lists, a line each: LABEL:|KIND|WAYS OR NUMBERS|BYTES|PARTS|ROOM. A line of one field is a heading.
+// Kinds: c control packet, m message, r result packet, k the key with an index, l the level with a number, a a control packet in six ways;
+// wc, wm, wr writing a command, a message, a result packet.
 mod readers;
-mod text;
 mod writers;
+
+use text::reading;
+use wire::Part;
 
 fn main() {
     let mut buffer = io::large_buffer();
     let n = io::read_full(0, &mut buffer);
     lines(&buffer[..n]);
-    writers::switches();
-    writers::multi_switches();
-    writers::states();
-    writers::setups();
-    writers::fields();
-    writers::parts();
-    writers::commands();
-    writers::results();
 }
 
 fn lines(s: &[u8]) {
-    let mut at: usize = 0;
-    while at < s.len() {
-        let end = text::find(s, at, b'\n');
-        case(text::between(s, at, end));
-        if s.len() <= end {
-            return;
-        }
-        at = end + 1;
+    let n = reading::count(s, b'\n');
+    let mut k: usize = 0;
+    while k < n {
+        case(reading::field(s, b'\n', k));
+        k += 1;
     }
 }
 
-// `LABEL: KIND..`: the label again, and what comes of the rest.
 fn case(line: &[u8]) {
-    let end = text::find(line, 0, b':');
-    print::text(text::between(line, 0, end));
-    print::text(b": ");
-    let rest = text::between(line, end, line.len());
-    readers::case(wire::byte_at(rest, 2), rest);
-    print::text(b"\n");
+    let mut out = [0u8; 4096];
+    let a = text::put(&mut out, 0, reading::field(line, b'|', 0));
+    let b = answer(&mut out, a, line);
+    let n = text::put(&mut out, b, b"\n");
+    io::write_all(1, wire::part_of(&out, Part { start: 0, len: n }));
+}
+
+fn answer(out: &mut [u8], at: usize, line: &[u8]) -> usize {
+    let mut room = [0u8; 65542];
+    let n = reading::bytes(&mut room, 0, reading::field(line, b'|', 3));
+    let bytes = wire::part_of(&room, Part { start: 0, len: n });
+    let way = reading::field(line, b'|', 2);
+    match wire::byte_at(reading::field(line, b'|', 1), 0) {
+        b'c' => readers::control_packet(out, at, bytes, way),
+        b'm' => readers::uart_message(out, at, bytes, way),
+        b'r' => readers::result_packet(out, at, bytes),
+        b'k' => readers::key(out, at, wire::byte_at(bytes, 0)),
+        b'l' => readers::level(out, at, wire::byte_at(bytes, 0)),
+        b'a' => readers::marks(out, at, bytes, way),
+        b'w' => writers::written(out, at, bytes, line),
+        _ => at,
+    }
 }

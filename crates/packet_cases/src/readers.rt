@@ -1,47 +1,28 @@
-// The readers. A line: KIND MODE ACCESS BYTES, or m MODE FORM BYTES for a message: one letter each, the bytes in base 16, +N at the end for N zeros.
-// Kinds: c control packet, m message, r result packet, k the key with an index, l the level with a number.
-// Modes: n normal, s setup. Access: - plain, a admin, m member, b basic, s setup, u a number that no level has.
-// Forms: - plain, ! plain while encryption is required, e encrypted, E encrypted while it is required.
-use crate::print;
-use crate::text;
+// The readers. A way in is two letters. The first is the mode: n normal, s setup.
+// The second for a control packet: - plain, a admin, m member, b basic, s setup, u a number that no level has.
+// For a message: - plain, ! plain while encryption is required, e encrypted, E encrypted while it is required.
 use access::Access;
 use access::Level;
 use access::LevelRead;
 use access::Mode;
-use control::Command;
 use control::ControlRead;
 use message::Form;
-use message::Message;
 use message::MessageRead;
 use result::ResultPacket;
 use result::ResultRead;
+use text::reading;
 use wire::Part;
+use wire::Written;
 
-pub fn case(kind: u8, line: &[u8]) {
-    let mut room = [0u8; 65540];
-    let n = text::bytes_of(line, 6, &mut room);
-    let bytes = wire::part_of(&room, Part { start: 0, len: n });
-    let mode = mode_of(wire::byte_at(line, 3));
-    let letter = wire::byte_at(line, 4);
-    match kind {
-        b'c' => control_packet(bytes, mode, access_of(letter)),
-        b'm' => uart_message(bytes, form_of(letter), required_by(letter), mode),
-        b'r' => result_packet(bytes),
-        b'k' => key(wire::byte_at(bytes, 0)),
-        b'l' => level(wire::byte_at(bytes, 0)),
-        _ => print::text(b"unreadable"),
-    }
-}
-
-fn mode_of(letter: u8) -> Mode {
-    if letter == b's' {
+fn mode_of(way: &[u8]) -> Mode {
+    if wire::byte_at(way, 0) == b's' {
         return Mode::Setup;
     }
     Mode::Normal
 }
 
-fn access_of(letter: u8) -> Access {
-    match letter {
+fn access_of(way: &[u8]) -> Access {
+    match wire::byte_at(way, 1) {
         b'a' => Access::Keyed(Level::Admin),
         b'm' => Access::Keyed(Level::Member),
         b'b' => Access::Keyed(Level::Basic),
@@ -51,82 +32,106 @@ fn access_of(letter: u8) -> Access {
     }
 }
 
-fn form_of(letter: u8) -> Form {
-    match letter {
-        b'e' => Form::Encrypted,
-        b'E' => Form::Encrypted,
-        _ => Form::Plain,
+// The bytes from a place on.
+fn behind(s: &[u8], at: usize) -> &[u8] {
+    if s.len() < at {
+        return &s[0..0];
+    }
+    &s[at..]
+}
+
+// What a writer made of what was read, at the front of a room, against the bytes read.
+fn again(out: &mut [u8], at: usize, w: Written, room: &[u8], bytes: &[u8]) -> usize {
+    match w {
+        Written::Wrote(n) => {
+            if check::same(wire::part_of(room, Part { start: 0, len: n }), bytes) {
+                text::put(out, at, b", written back")
+            } else {
+                text::put(out, at, b", written otherwise")
+            }
+        }
+        Written::Refused(n) => text::named(out, at, b", writing refused ", n as u64),
     }
 }
 
-fn required_by(letter: u8) -> bool {
-    match letter {
-        b'!' => true,
-        b'E' => true,
-        _ => false,
-    }
-}
-
-// What is read, and whether it is written as it was.
-fn control_packet(packet: &[u8], mode: Mode, access: Access) {
-    match control::read_control(packet, mode, access) {
-        ControlRead::Refused(n) => print::refused(n),
+pub fn control_packet(out: &mut [u8], at: usize, packet: &[u8], way: &[u8]) -> usize {
+    match control::read_control(packet, mode_of(way), access_of(way)) {
+        ControlRead::Refused(n) => text::named(out, at, b" refused ", n as u64),
         ControlRead::Accepted(c) => {
-            print::command(c);
-            command_back(c, packet);
+            let a = content_text::command(out, at, c);
+            let mut room = [0u8; 65540];
+            let w = control_write::write_control(c, behind(packet, 5), &mut room);
+            again(out, a, w, &room, packet)
         }
     }
 }
 
-fn command_back(c: Command, packet: &[u8]) {
-    let mut room = [0u8; 65540];
-    let w = control_write::write_control(c, text::between(packet, 5, packet.len()), &mut room);
-    print::again(w, &room, packet);
+// One packet in six ways: ok, or the refusal's number.
+pub fn marks(out: &mut [u8], at: usize, packet: &[u8], ways: &[u8]) -> usize {
+    let mut end = at;
+    let mut k: usize = 0;
+    while k < 6 {
+        end = mark(out, end, packet, reading::field(ways, b' ', k));
+        k += 1;
+    }
+    end
 }
 
-fn uart_message(bytes: &[u8], form: Form, required: bool, mode: Mode) {
-    match message::read_message(bytes, form, required, mode) {
-        MessageRead::Refused(n) => print::refused(n),
+fn mark(out: &mut [u8], at: usize, packet: &[u8], way: &[u8]) -> usize {
+    match control::read_control(packet, mode_of(way), access_of(way)) {
+        ControlRead::Refused(n) => text::named(out, at, b" ", n as u64),
+        ControlRead::Accepted(_) => text::put(out, at, b" ok"),
+    }
+}
+
+pub fn uart_message(out: &mut [u8], at: usize, bytes: &[u8], way: &[u8]) -> usize {
+    let mode = mode_of(way);
+    let read = match wire::byte_at(way, 1) {
+        b'!' => message::read_message(bytes, Form::Plain, true, mode),
+        b'e' => message::read_message(bytes, Form::Encrypted, false, mode),
+        b'E' => message::read_message(bytes, Form::Encrypted, true, mode),
+        _ => message::read_message(bytes, Form::Plain, false, mode),
+    };
+    match read {
+        MessageRead::Refused(n) => text::named(out, at, b" refused ", n as u64),
         MessageRead::Accepted(m) => {
-            print::message(m);
-            message_back(m, bytes);
+            let a = content_text::message(out, at, m);
+            let mut room = [0u8; 507];
+            let parts = behind(behind(bytes, 2), message::parts_at(m));
+            let w = message_write::write_message(m, parts, &mut room);
+            again(out, a, w, &room, bytes)
         }
     }
 }
 
-fn message_back(m: Message, bytes: &[u8]) {
-    let mut room = [0u8; 507];
-    let behind = text::between(bytes, 2, bytes.len());
-    let parts = text::between(behind, message::parts_at(m), behind.len());
-    let w = message_write::write_message(m, parts, &mut room);
-    print::again(w, &room, bytes);
-}
-
-fn result_packet(packet: &[u8]) {
+pub fn result_packet(out: &mut [u8], at: usize, packet: &[u8]) -> usize {
     match result::read_result(packet) {
-        ResultRead::Done(r) => result_back(b"done", r, packet),
-        ResultRead::Waiting(r) => result_back(b"waiting", r, packet),
-        ResultRead::Failed(r) => result_back(b"failed", r, packet),
-        ResultRead::Refused(n) => print::refused(n),
+        ResultRead::Done(r) => result_as(out, at, b" done", r, packet),
+        ResultRead::Waiting(r) => result_as(out, at, b" waiting", r, packet),
+        ResultRead::Failed(r) => result_as(out, at, b" failed", r, packet),
+        ResultRead::Refused(n) => text::named(out, at, b" refused ", n as u64),
     }
 }
 
-fn result_back(outcome: &[u8], r: ResultPacket, packet: &[u8]) {
-    print::text(outcome);
-    print::result(r);
+// What came of the command; the command, the code, the payload.
+fn result_as(out: &mut [u8], at: usize, outcome: &[u8], r: ResultPacket, packet: &[u8]) -> usize {
+    let a = text::put(out, at, outcome);
+    let b = text::decimals(out, a, &[r.command as u64, r.code as u64]);
+    let payload = r.payload;
+    let c = content_text::part(out, b, payload);
     let mut room = [0u8; 64];
     let w = result::write_result(r, packet, &mut room);
-    print::again(w, &room, packet);
+    again(out, c, w, &room, packet)
 }
 
-fn key(index: u8) {
+pub fn key(out: &mut [u8], at: usize, index: u8) -> usize {
     let keys = Part { start: 2, len: 96 };
-    print::part(b"", control::key_part(keys, wire::wide(index)));
+    content_text::part(out, at, control::key_part(keys, wire::wide(index)))
 }
 
-fn level(n: u8) {
+pub fn level(out: &mut [u8], at: usize, n: u8) -> usize {
     match access::level_of(n) {
-        LevelRead::Known(l) => print::number(b"known, ", access::level_number(l) as u64),
-        LevelRead::Unknown => print::text(b"unknown"),
+        LevelRead::Known(l) => text::named(out, at, b" known, ", access::level_number(l) as u64),
+        LevelRead::Unknown => text::put(out, at, b" unknown"),
     }
 }

@@ -1,26 +1,27 @@
--- `number_at` meets its contract. Assumes nothing.
+-- `items` is safe, and ends. Assumes nothing.
 use Prim.Native.Nat.{_-_}
+use mathlib.Core.Path.{_≡_}
 use lib.ListN.{length}
 use borrow.Author.Needs.{needs}
-use Rattle.packet_cases.proofs.text.number_at.Statement.{statement}
-use Rattle.packet_cases.proofs.text.number_at.Tie as tie
+use Rattle.end_to_end.proofs.items.Statement.{statement}
+use Rattle.end_to_end.proofs.items.Tie as tie
 
 abbrev Inv-loop : tie.InvT-loop
-Inv-loop s from value₀ at₀ value at = Unit {0}
+Inv-loop s line₀ at₀ n k₀ line at k = length line ≡ 8192
 
 abbrev μ-loop : tie.MeasureT-loop
-μ-loop s from value₀ at₀ value at = length s - at
+μ-loop s line₀ at₀ n k₀ line at k = n - k
 
-pub number-at-spec : {M : Type 1} → statement M
-number-at-spec =
+pub items-spec : {M : Type 1} → statement M
+items-spec =
     tie.close
     (tie.spec
     Inv-loop
     μ-loop
+    (λ c κs. search needs)
     (λ c. search needs)
     (λ c. search needs)
     (λ c κs. search needs)
-    (λ c. search needs)
     (λ c κs. search needs)
     (λ c. search needs)
     (λ c. search needs)

@@ -1,9 +1,9 @@
--- `end_to_end::receive` is safe, and ends. Assumes nothing.
+-- `receive` is safe, and ends. Assumes nothing.
 use Prim.Native.Nat.{_≤_, _-_}
 use lib.ListN.{length}
 use borrow.Author.Needs.{needs}
-use Rattle.end_to_end.proofs.receive.Statement.{statement}
-use Rattle.end_to_end.proofs.receive.Tie as tie
+use Rattle.end_to_end.proofs.opening.receive.Statement.{statement}
+use Rattle.end_to_end.proofs.opening.receive.Tie as tie
 
 abbrev Inv-loop : tie.InvT-loop
 Inv-loop line receiver₀ session₀ i₀ receiver session i = i ≤ length line
@@ -17,6 +17,7 @@ receive-spec =
     (tie.spec
     Inv-loop
     μ-loop
+    (λ c κs. search needs)
     (λ c κs. search needs)
     (λ c. search needs)
     (λ c. search needs)
