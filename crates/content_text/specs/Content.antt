@@ -1,0 +1,37 @@
+-- What a command and a message hold, as texts: each number behind a space, each part as START+LENGTH behind one.
+use Prim.Native.Nat.{ℕ}
+use mathlib.Core.Path.{_≡_, refl}
+use mathlib.Core.List.{List, [], _∷_, _++_}
+use Rattle.wire.specs.Parts.{part}
+use Rattle.wire.specs.declared.Part.{Part}
+use Rattle.text.specs.Digits.{decimalIn, decimal, decimals}
+use Rattle.control.specs.Command.{commandNumber, commandValues, commandParts}
+use Rattle.control.specs.declared.Command.{Command}
+use Rattle.control.specs.declared.Command.the-variants.{SetState, Switch}
+use Rattle.message.specs.Message.{messageType, messageValues, messageParts}
+use Rattle.message.specs.declared.Message.{Message}
+use Rattle.message.specs.declared.Message.the-variants.{Control}
+
+abbrev pub partText : Part → List ℕ
+partText p = (32 ∷ decimal (p .start)) ++ (43 ∷ decimal (p .len))
+
+abbrev pub partTexts : List Part → List ℕ
+partTexts [] = []
+partTexts (p ∷ ps) = partText p ++ partTexts ps
+
+abbrev pub commandText : Command → List ℕ
+commandText c = decimals (commandNumber c ∷ commandValues c) ++ partTexts (commandParts c)
+
+abbrev pub messageText : Message → List ℕ
+messageText m = decimals (messageType m ∷ messageValues m) ++ partTexts (messageParts m)
+
+-- ---- set state of type 7, ` 3 7 0 1 0 6+2`; a control message with a switch, ` 10 20 100`
+example-command :
+    commandText (SetState (record { kind = 7; id = 0; mode = 1; value = part 6 2 }))
+    ≡ 32 ∷ 51 ∷ 32 ∷ 55 ∷ 32 ∷ 48 ∷ 32 ∷ 49 ∷ 32 ∷ 48 ∷ 32 ∷ 54 ∷ 43 ∷ 50 ∷ []
+unfolding decimalIn decimals
+example-command = refl
+
+example-message : messageText (Control (Switch 100)) ≡ 32 ∷ 49 ∷ 48 ∷ 32 ∷ 50 ∷ 48 ∷ 32 ∷ 49 ∷ 48 ∷ 48 ∷ []
+unfolding decimalIn decimals
+example-message = refl
