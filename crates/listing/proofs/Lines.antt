@@ -18,7 +18,7 @@ use Rattle.line.proofs.Run.{run-append, after-append}
 use Rattle.line.proofs.Feeding.{feeds-after, feeds-forward}
 use Rattle.listing.specs.Listing.{frameLine, refusedLine, eventText, linesOf, between, Lists}
 use Rattle.line.specs.declared.Receiver.{Receiver}
-use Rattle.line.specs.declared.Fed.{Fed}
+use Rattle.line.specs.Feed.{Fed}
 use Rattle.line.specs.declared.Event.{Event}
 use Rattle.line.specs.declared.Event.the-variants.{Nothing, Frame, Refused}
 
