@@ -1,5 +1,5 @@
-// Runs the AES-128 vectors of FIPS 197 through the crate `aes` and prints how many values passed. A group of standard input is its name, what
-// its values are, the key, the input, and on each line a value behind its name; a group without input lists round keys.
+// Runs the AES-128 vectors of FIPS 197 through the crate `aes`: prints how many values passed, and each that differs. A group of standard
+// input is its name, what its values are, the key, the input, and on each line a value behind its name; a group without input lists round keys.
 use libc::STDIN_FILENO;
 use libc::STDOUT_FILENO;
 use text::reading;
@@ -19,7 +19,7 @@ fn block(s: &[u8]) -> [u8; 16] {
     b
 }
 
-// 1 where a value is the one that a line lists.
+// 1 where a value is the one that a line lists; else 0, and both are printed.
 fn agrees(got: [u8; 16], listed: &[u8]) -> usize
     ensures { λ r. ⌜ r ≤ 1 ⌝ }
 {
@@ -27,6 +27,11 @@ fn agrees(got: [u8; 16], listed: &[u8]) -> usize
     if check::same(&got, &wanted) {
         return 1;
     }
+    let mut digits = [b'\n'; 33];
+    text::hex(&mut digits, 0, &got);
+    io::write_all(STDOUT_FILENO, listed);
+    io::write_all(STDOUT_FILENO, b", got ");
+    io::write_all(STDOUT_FILENO, &digits);
     0
 }
 
