@@ -1,8 +1,10 @@
 #!/usr/bin/env python3
-"""Writes what crates/seal_vectors must print. The blocks come from AES-CTR of the package `cryptography`, and layout and refusals from document 01.
+"""Writes what crates/seal_vectors must print for the cases in its stdin. The blocks come from AES-CTR of the package `cryptography`, and layout and refusals from document 01.
 
     python3 bench/seal/vectors.py > crates/seal_vectors/stdout
 """
+from pathlib import Path
+
 from cryptography.hazmat.primitives.ciphers import Cipher, algorithms, modes
 
 SESSION_NONCE = bytes([0x51, 0x52, 0x53, 0x54, 0x55])
@@ -53,24 +55,16 @@ def message(n, room, mode):
     show("message", n, image("admin", 0, n, text), (2, 490), room, serves(mode, "admin"))
 
 
-def packet(n, mode, level):
+def packet(n, room, mode, level):
     size = max(n - 5, 0).to_bytes(2, "little")
     bytes_ = fill(n)
     bytes_ = (bytes_[:3] + size + bytes_[5:])[:n]
-    show("packet", n, image(level, LEVELS[level], n, VALIDATION + bytes_), (5, 492), 512, serves(mode, level))
+    show("packet", n, image(level, LEVELS[level], n, VALIDATION + bytes_), (5, 492), room, serves(mode, level))
 
 
-for n in (2, 10, 11, 26, 27, 490):
-    message(n, 512, "normal")
-message(1, 35, "setup")
-message(491, 35, "setup")
-message(11, 35, "setup")
-message(11, 36, "setup")
-packet(5, "normal", "admin")
-packet(12, "normal", "member")
-packet(13, "normal", "basic")
-packet(492, "setup", "setup")
-packet(4, "normal", "admin")
-packet(493, "normal", "admin")
-packet(5, "setup", "basic")
-packet(5, "normal", "setup")
+for line in (Path(__file__).resolve().parents[2] / "crates/seal_vectors/stdin").read_text().splitlines():
+    kind, mode, level, n, room = line.split()
+    if kind == "message":
+        message(int(n), int(room), mode)
+    else:
+        packet(int(n), int(room), mode, next(name for name, number in LEVELS.items() if number == int(level)))

@@ -1,48 +1,51 @@
-// Runs the AES-128 vectors of FIPS 197 through the crate `aes`: prints how many passed, and each value that differs.
-mod vectors;
-
+// Runs the AES-128 vectors of FIPS 197 through the crate `aes`: prints how many values passed, and each that differs. A group of standard
+// input is its name, what its values are, the key, the input, and on each line a value behind its name; a group without input lists round keys.
+use libc::STDIN_FILENO;
 use libc::STDOUT_FILENO;
-ghost use mathlib.Core.Path.{_≡_};
-ghost use Prim.Native.Nat.{_≤_};
+use text::reading;
+use wire::Part;
+ghost use Prim.Native.Nat.{_≤_, _<_};
 ghost use lib.ListN.{length};
 
-fn print_bytes(s: &[u8]) {
-    let mut i: usize = 0;
-    while i < s.len() {
-        io::print_hex(STDOUT_FILENO, s[i] as u64, 2);
-        i += 1;
-    }
+// A line of a group.
+fn line(group: &[u8], k: usize) -> &[u8] {
+    reading::field(group, b'\n', k)
 }
 
-// 1 where both are the same, else 0 and a line that shows them.
-fn compare(name: &[u8], place: usize, got: [u8; 16], wanted: [u8; 16]) -> usize
+// Sixteen bytes.
+fn block(s: &[u8]) -> [u8; 16] {
+    let mut b = [0u8; 16];
+    reading::bytes(&mut b, 0, s);
+    b
+}
+
+// 1 where a value is the one that a line lists; else 0, and both are printed.
+fn agrees(got: [u8; 16], listed: &[u8]) -> usize
     ensures { λ r. ⌜ r ≤ 1 ⌝ }
 {
+    let wanted = block(reading::field(listed, b' ', 1));
     if check::same(&got, &wanted) {
         return 1;
     }
-    io::write_all(STDOUT_FILENO, name);
-    io::write_all(STDOUT_FILENO, b" ");
-    io::print_decimal(STDOUT_FILENO, place as u64);
-    io::write_all(STDOUT_FILENO, b": ");
-    print_bytes(&got);
-    io::write_all(STDOUT_FILENO, b" instead of ");
-    print_bytes(&wanted);
-    io::write_all(STDOUT_FILENO, b"\n");
+    let mut digits = [b'\n'; 33];
+    text::hex(&mut digits, 0, &got);
+    io::write_all(STDOUT_FILENO, listed);
+    io::write_all(STDOUT_FILENO, b", got ");
+    io::write_all(STDOUT_FILENO, &digits);
     0
 }
 
-// How many values of the two lists are the same.
-fn compare_all(name: &[u8], got: &[[u8; 16]], wanted: &[[u8; 16]]) -> usize
-    requires { ⌜ length (now got) ≡ length (now wanted) ⌝ }
+// How many values a group lists.
+fn passed(group: &[u8], got: &[[u8; 16]]) -> usize
+    requires { ⌜ length (now got) < 1000 ⌝ }
 {
-    let mut passed: usize = 0;
+    let mut n: usize = 0;
     let mut i: usize = 0;
-    while i < wanted.len() {
-        passed += compare(name, i, got[i], wanted[i]);
+    while i < got.len() {
+        n += agrees(got[i], line(group, i + 5));
         i += 1;
     }
-    passed
+    n
 }
 
 // For each round the state at its start, after SubBytes, after ShiftRows and after MixColumns, and the round key.
@@ -77,38 +80,38 @@ fn values(key: [u8; 16], input: [u8; 16]) -> [[u8; 16]; 50] {
     all
 }
 
-fn report(name: &[u8], got: &[[u8; 16]], wanted: &[[u8; 16]], what: &[u8])
-    requires { ⌜ length (now got) ≡ length (now wanted) ⌝ }
+// `NAME: N of M values passed`.
+fn summary(group: &[u8], got: &[[u8; 16]], out: &mut [u8]) -> usize
+    requires { ⌜ length (now got) < 1000 ⌝ }
 {
-    let passed = compare_all(name, got, wanted);
-    io::write_all(STDOUT_FILENO, name);
-    io::write_all(STDOUT_FILENO, b": ");
-    io::print_decimal(STDOUT_FILENO, passed as u64);
-    io::write_all(STDOUT_FILENO, b" of ");
-    io::print_decimal(STDOUT_FILENO, wanted.len() as u64);
-    io::write_all(STDOUT_FILENO, what);
+    let n = passed(group, got);
+    let a = text::put(out, 0, line(group, 1));
+    let b = text::named(out, a, b": ", n as u64);
+    let c = text::named(out, b, b" of ", got.len() as u64);
+    let d = text::put(out, c, line(group, 2));
+    text::put(out, d, b"\n")
 }
 
-fn appendix_a1() {
-    let keys = vectors::A1_KEYS;
-    let got = aes::expand_key(keys[0]);
-    report(b"A.1", &got, &keys, b" round keys of four words passed\n");
-}
-
-fn appendix_b() {
-    let wanted = vectors::B_VALUES;
-    let got = values(vectors::B_KEY, vectors::B_INPUT);
-    report(b"B", &got, &wanted, b" values passed\n");
-}
-
-fn appendix_c1() {
-    let wanted = vectors::C1_VALUES;
-    let got = values(vectors::C1_KEY, vectors::C1_INPUT);
-    report(b"C.1", &got, &wanted, b" values passed\n");
+fn run(group: &[u8], out: &mut [u8]) -> usize {
+    let key = block(line(group, 3));
+    let input = line(group, 4);
+    if input.len() == 0 {
+        let keys = aes::expand_key(key);
+        return summary(group, &keys, out);
+    }
+    let all = values(key, block(input));
+    summary(group, &all, out)
 }
 
 fn main() {
-    appendix_a1();
-    appendix_b();
-    appendix_c1();
+    let mut room = [0u8; 8192];
+    let n = io::read_full(STDIN_FILENO, &mut room);
+    let groups = wire::part_of(&room, Part { start: 0, len: n });
+    let mut out = [0u8; 128];
+    let mut k: usize = 0;
+    while k < reading::count(groups, b'/') {
+        let len = run(reading::field(groups, b'/', k + 1), &mut out);
+        io::write_all(STDOUT_FILENO, wire::part_of(&out, Part { start: 0, len }));
+        k += 1;
+    }
 }
