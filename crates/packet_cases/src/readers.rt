@@ -113,22 +113,32 @@ fn message(out: &mut [u8], at: usize, m: Message, bytes: &[u8]) -> usize {
 
 pub fn result_packet(out: &mut [u8], at: usize, packet: &[u8]) -> usize {
     match result::read_result(packet) {
-        ResultRead::Done(r) => result_as(out, at, b" done ", r, packet),
-        ResultRead::Waiting(r) => result_as(out, at, b" waiting ", r, packet),
-        ResultRead::Failed(r) => result_as(out, at, b" failed ", r, packet),
+        ResultRead::Done(r) => result_as(out, at, 0, r, packet),
+        ResultRead::Waiting(r) => result_as(out, at, 1, r, packet),
+        ResultRead::Failed(r) => result_as(out, at, 2, r, packet),
         ResultRead::Refused(n) => crate::refused(out, at, n),
     }
 }
 
 // What came of the command; the command, the code, the payload.
-fn result_as(out: &mut [u8], at: usize, outcome: &[u8], r: ResultPacket, packet: &[u8]) -> usize {
-    let a = text::named(out, at, outcome, r.command as u64);
+fn result_as(out: &mut [u8], at: usize, outcome: usize, r: ResultPacket, packet: &[u8]) -> usize {
+    let words = b" done , waiting , failed ";
+    let a = text::named(
+        out,
+        at,
+        reading::field(words, b',', outcome),
+        r.command as u64,
+    );
     let b = text::named(out, a, b" ", r.code as u64);
     let payload = r.payload;
     let c = content_text::part(out, b, payload);
+    result_back(out, c, r, packet)
+}
+
+fn result_back(out: &mut [u8], at: usize, r: ResultPacket, packet: &[u8]) -> usize {
     let mut room = [0u8; 64];
     let w = result::write_result(r, packet, &mut room);
-    again(out, c, w, &room, packet)
+    again(out, at, w, &room, packet)
 }
 
 pub fn key(out: &mut [u8], at: usize, index: u8) -> usize {
