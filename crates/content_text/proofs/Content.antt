@@ -1,28 +1,52 @@
--- Numbers, and behind them no part, one or two; a message's data type before a command. Assumes nothing.
+-- Numbers and the parts behind them; a message's data type before a command. Assumes nothing.
 use Prim.Native.Nat.{ℕ}
-use mathlib.Core.Path.{_≡_, sym}
+use mathlib.Core.Path.{_≡_, refl, sym, ap}
+use mathlib.Core.Bool.{true}
 use mathlib.Core.List.{List, [], _∷_, _++_, append-assoc, append-nil}
+use native.Mathlib.Omega.{arith}
+use lib.ListN.{length, take}
+use lib.Seq.{take-all}
+use lib.Dec.{leb}
+use borrow.Author.Tests.{leb-true}
+use Rattle.wire.specs.declared.Part.{Part}
 use Rattle.text.specs.Puts.{Puts}
 use Rattle.text.specs.Digits.{decimal, decimals}
-use Rattle.text.proofs.Puts.{puts-then, puts-same}
+use Rattle.text.proofs.Puts.{puts-none, puts-then, puts-same}
+use Rattle.content_text.specs.Content.{partText, partTexts, countingParts, Lists}
+use Rattle.content_text.specs.declared.Numbers.{Numbers}
+use Rattle.content_text.specs.declared.Parts.{Parts}
 
-pub no-part : {s room after : List ℕ} {at q : ℕ} → Puts s at room q after → Puts (s ++ []) at room q after
+no-part : {s room after : List ℕ} {at q : ℕ} → Puts s at room q after → Puts (s ++ []) at room q after
 no-part {s} x = puts-same x (sym (append-nil s))
 
-pub one-part :
-    {s t room mid after : List ℕ} {at p q : ℕ}
-    → Puts s at room p mid
-    → Puts t p mid q after
-    → Puts (s ++ (t ++ [])) at room q after
-one-part x y = puts-then x (no-part y)
+-- ---- the first so many of two parts
+pub none-of : (p : Parts) (at : ℕ) (room : List ℕ) → p .0 ≡ 0 → Puts (partTexts (countingParts p)) at room at room
+none-of p at room e = rw e (puts-none at room)
 
-pub two-parts :
-    {s t u room mid more after : List ℕ} {at p o q : ℕ}
-    → Puts s at room p mid
-    → Puts t p mid o more
-    → Puts u o more q after
-    → Puts (s ++ (t ++ (u ++ []))) at room q after
-two-parts x y z = puts-then x (puts-then y (no-part z))
+module _ (p : Parts) {at q : ℕ} {room mid : List ℕ} (x : Puts (partText (p .1)) at room q mid) where
+  pub one-of : p .0 ≡ 1 → Puts (partTexts (countingParts p)) at room q mid
+  one-of e = rw e (no-part x)
+
+  pub two-of :
+      {r : ℕ} {after : List ℕ}
+      → (p .0 ≡ 0 → ⊥)
+      → (p .0 ≡ 1 → ⊥)
+      → Puts (partText (p .2)) q mid r after
+      → Puts (partTexts (countingParts p)) at room r after
+  two-of h k y = rw (take-all (p .0) (p .1 ∷ p .2 ∷ []) (omega arith)) (puts-then x (no-part y))
+
+-- ---- numbers, and parts behind them
+pub counted : (n : Numbers) → leb (n .0) (length (n .1)) ≡ true → Lists n (take (n .0) (n .1))
+counted n e = record { count = leb-true _ _ e; same = refl }
+
+pub behind-numbers :
+    {n : Numbers} {ns room mid after : List ℕ} {ps qs : List Part} {at p q : ℕ}
+    → Lists n ns
+    → ps ≡ qs
+    → Puts (decimals (take (n .0) (n .1))) at room p mid
+    → Puts (partTexts ps) p mid q after
+    → Puts (decimals ns ++ partTexts qs) at room q after
+behind-numbers l e x y = puts-then (puts-same x (ap decimals (l .same))) (puts-same y (ap partTexts e))
 
 typed : (n : ℕ) (ns t : List ℕ) → decimals (n ∷ []) ++ (decimals ns ++ t) ≡ decimals (n ∷ ns) ++ t
 unfolding decimals

@@ -1,11 +1,20 @@
 // What a command and a message hold, as a text in document 01's numbers: each number behind a space, each part as START+LENGTH behind one.
-ghost use mathlib.Core.List.{_∷_, []};
-ghost use Rattle.text.specs.Puts.{Puts};
-ghost use Rattle.text.specs.Digits.{decimals};
-ghost use Rattle.content_text.specs.Content.{partText, commandText, messageText};
+mod fields;
+
 use control::Command;
 use message::Message;
 use wire::Part;
+ghost use Prim.Native.Nat.{_≤_};
+ghost use lib.ListN.{length, take};
+ghost use Rattle.text.specs.Puts.{Puts};
+ghost use Rattle.text.specs.Digits.{decimals};
+ghost use Rattle.content_text.specs.Content.{partText, partTexts, countingParts, commandText, messageText};
+
+// Six numbers, of which the first so many count.
+struct Numbers(usize, [u64; 6]);
+
+// Two parts, of which the first so many count.
+struct Parts(usize, Part, Part);
 
 // A part.
 pub fn part(out: &mut [u8], at: usize, p: Part) -> usize
@@ -15,90 +24,44 @@ pub fn part(out: &mut [u8], at: usize, p: Part) -> usize
     text::named(out, behind, b"+", p.len as u64)
 }
 
-// What get state and set state hold alike: number, type, id, mode, the reserved 0.
-fn state(out: &mut [u8], at: usize, number: u64, kind: u16, id: u16, mode: u8) -> usize
-    ensures { λ r. ⌜ Puts (decimals (number ∷ kind ∷ id ∷ mode ∷ 0 ∷ [])) at (now (out .entry)) r (now (out .exit)) ⌝ }
+fn put_parts(out: &mut [u8], at: usize, p: Parts) -> usize
+    ensures { λ r. ⌜ Puts (partTexts (countingParts p)) at (now (out .entry)) r (now (out .exit)) ⌝ }
 {
-    text::decimals(out, at, &[number, kind as u64, id as u64, mode as u64, 0])
+    let count = p.0;
+    let first = p.1;
+    let second = p.2;
+    if count == 0 {
+        return at;
+    }
+    let behind = part(out, at, first);
+    if count == 1 {
+        return behind;
+    }
+    part(out, behind, second)
+}
+
+fn put_numbers(out: &mut [u8], at: usize, n: Numbers) -> usize
+    requires { ⌜ n .0 ≤ length (n .1) ⌝ }
+    ensures { λ r. ⌜ Puts (decimals (take (n .0) (n .1))) at (now (out .entry)) r (now (out .exit)) ⌝ }
+{
+    let count = n.0;
+    let values = n.1;
+    text::decimals(out, at, &values[..count])
 }
 
 // A command: its number, the numbers in its fields, its parts.
 pub fn command(out: &mut [u8], at: usize, c: Command) -> usize
     ensures { λ r. ⌜ Puts (commandText c) at (now (out .entry)) r (now (out .exit)) ⌝ }
 {
-    match c {
-        Command::Setup(f) => {
-            let keys = f.keys;
-            let rest = f.rest;
-            let a = text::decimals(out, at, &[0, f.stone as u64, f.sphere as u64]);
-            let b = part(out, a, keys);
-            part(out, b, rest)
-        }
-        Command::FactoryReset => text::decimals(out, at, &[1, 0xDEADBEEF]),
-        Command::GetState(f) => state(out, at, 2, f.kind, f.id, f.mode),
-        Command::SetState(f) => {
-            let value = f.value;
-            let a = state(out, at, 3, f.kind, f.id, f.mode);
-            part(out, a, value)
-        }
-        Command::BootloaderVersion => text::decimals(out, at, &[4]),
-        Command::UicrData => text::decimals(out, at, &[5]),
-        Command::IbeaconConfig(f) => text::decimals(
-            out,
-            at,
-            &[6, f.id as u64, f.timestamp as u64, f.interval as u64],
-        ),
-        Command::Reset => text::decimals(out, at, &[10]),
-        Command::GotoDfu => text::decimals(out, at, &[11]),
-        Command::NoOperation => text::decimals(out, at, &[12]),
-        Command::Disconnect => text::decimals(out, at, &[13]),
-        Command::Switch(value) => text::decimals(out, at, &[20, value as u64]),
-        Command::MultiSwitch(f) => {
-            let pairs = f.pairs;
-            let a = text::decimals(out, at, &[21, f.count as u64]);
-            part(out, a, pairs)
-        }
-    }
+    let behind = put_numbers(out, at, fields::command_numbers(c));
+    put_parts(out, behind, fields::command_parts(c))
 }
 
 // A message: its data type, the numbers in its fields, its parts; behind a control message's type its command.
 pub fn message(out: &mut [u8], at: usize, m: Message) -> usize
     ensures { λ r. ⌜ Puts (messageText m) at (now (out .entry)) r (now (out .exit)) ⌝ }
 {
-    match m {
-        Message::Hello(flags) => text::decimals(out, at, &[0, flags as u64]),
-        Message::SessionNonce(f) => {
-            let t = f.timeout;
-            let n = f.nonce;
-            text::decimals(
-                out,
-                at,
-                &[
-                    1,
-                    t.0,
-                    n.0 as u64,
-                    n.1 as u64,
-                    n.2 as u64,
-                    n.3 as u64,
-                    n.4 as u64,
-                ],
-            )
-        }
-        Message::Heartbeat(timeout) => text::decimals(out, at, &[2, timeout.0]),
-        Message::Status(f) => {
-            let data = f.data;
-            let a = text::decimals(out, at, &[3, f.kind as u64, f.flags as u64]);
-            part(out, a, data)
-        }
-        Message::GetMac => text::decimals(out, at, &[4]),
-        Message::Control(c) => {
-            let a = text::decimals(out, at, &[10]);
-            command(out, a, c)
-        }
-        Message::HubReply(f) => {
-            let data = f.data;
-            let a = text::decimals(out, at, &[11, f.code as u64]);
-            part(out, a, data)
-        }
-    }
+    let a = text::decimals(out, at, &[fields::message_type(m)]);
+    let b = put_numbers(out, a, fields::message_numbers(m));
+    put_parts(out, b, fields::message_parts(m))
 }

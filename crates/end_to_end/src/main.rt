@@ -64,22 +64,12 @@ fn nonce(v: &[u8]) -> [u8; 3] {
     [(reading::number(v) % 256) as u8, 0x7E, 0x5C]
 }
 
-// A line of a number behind its name.
-fn told(name: &[u8], n: u8) {
-    let mut out = [0u8; 64];
-    let a = text::named(&mut out, 0, name, n as u64);
-    let b = text::put(&mut out, a, b"\n");
-    io::write_all(1, wire::part_of(&out, Part { start: 0, len: b }));
-}
-
+// A message that a writer refuses leaves the line as it is, so that its answer is missing.
 fn framed(line: &mut [u8], at: usize, wrapper: u8, payload: &[u8]) -> usize {
     let mut room = [0u8; 1100];
     match frame::write_frame(wrapper, payload, &mut room) {
         Written::Wrote(n) => text::put(line, at, wire::part_of(&room, Part { start: 0, len: n })),
-        Written::Refused(n) => {
-            told(b"frame writer refused ", n);
-            at
-        }
+        Written::Refused(_) => at,
     }
 }
 
@@ -105,9 +95,6 @@ fn sealed(line: &mut [u8], at: usize, session: [u8; 5], nonce: [u8; 3], message:
             128,
             wire::part_of(&room, Part { start: 0, len: n }),
         ),
-        Written::Refused(n) => {
-            told(b"sealer refused ", n);
-            at
-        }
+        Written::Refused(_) => at,
     }
 }

@@ -61,10 +61,17 @@ fn handle(event: Event, receiver: Receiver, session: Session) -> Session {
             )
         }
         Event::Refused(n) => {
-            crate::told(b"receiver refused ", n);
+            receiver_refused(n);
             session
         }
     }
+}
+
+fn receiver_refused(n: u8) {
+    let mut out = [0u8; 64];
+    let a = text::named(&mut out, 0, b"receiver refused ", n as u64);
+    let b = text::put(&mut out, a, b"\n");
+    io::write_all(1, wire::part_of(&out, Part { start: 0, len: b }));
 }
 
 // The work buffer holds other bytes at each opening.

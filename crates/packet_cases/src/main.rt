@@ -4,6 +4,8 @@
 mod readers;
 mod writers;
 
+ghost use mathlib.Core.Path.{_≡_};
+ghost use lib.ListN.{length};
 use text::reading;
 use wire::Part;
 
@@ -23,17 +25,20 @@ fn lines(s: &[u8]) {
 }
 
 fn case(line: &[u8]) {
+    let mut room = full();
+    let n = reading::bytes(&mut room, 0, reading::field(line, b'|', 3));
+    print(line, wire::part_of(&room, Part { start: 0, len: n }));
+}
+
+fn print(line: &[u8], bytes: &[u8]) {
     let mut out = [0u8; 4096];
     let a = text::put(&mut out, 0, reading::field(line, b'|', 0));
-    let b = answer(&mut out, a, line);
+    let b = answer(&mut out, a, line, bytes);
     let n = text::put(&mut out, b, b"\n");
     io::write_all(1, wire::part_of(&out, Part { start: 0, len: n }));
 }
 
-fn answer(out: &mut [u8], at: usize, line: &[u8]) -> usize {
-    let mut room = [0u8; 65542];
-    let n = reading::bytes(&mut room, 0, reading::field(line, b'|', 3));
-    let bytes = wire::part_of(&room, Part { start: 0, len: n });
+fn answer(out: &mut [u8], at: usize, line: &[u8], bytes: &[u8]) -> usize {
     let way = reading::field(line, b'|', 2);
     match wire::byte_at(reading::field(line, b'|', 1), 0) {
         b'c' => readers::control_packet(out, at, bytes, way),
@@ -45,4 +50,15 @@ fn answer(out: &mut [u8], at: usize, line: &[u8]) -> usize {
         b'w' => writers::written(out, at, bytes, line),
         _ => at,
     }
+}
+
+// A room for the longest packets, full of EE.
+fn full() -> [u8; 65548]
+    ensures { λ r. ⌜ 65548 ≡ length r ⌝ }
+{
+    [0xEE; 65548]
+}
+
+fn refused(out: &mut [u8], at: usize, n: u8) -> usize {
+    text::named(out, at, b" refused ", n as u64)
 }

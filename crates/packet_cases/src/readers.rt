@@ -1,12 +1,14 @@
-// The readers. A way in is two letters. The first is the mode: n normal, s setup.
+// The readers. A way in is letters. The first is the mode: n normal, s setup.
 // The second for a control packet: - plain, a admin, m member, b basic, s setup, u a number that no level has.
-// For a message: - plain, ! plain while encryption is required, e encrypted, E encrypted while it is required.
+// For a message: - plain, e encrypted; then ! where encryption is required.
 use access::Access;
 use access::Level;
 use access::LevelRead;
 use access::Mode;
+use control::Command;
 use control::ControlRead;
 use message::Form;
+use message::Message;
 use message::MessageRead;
 use result::ResultPacket;
 use result::ResultRead;
@@ -30,6 +32,13 @@ fn access_of(way: &[u8]) -> Access {
         b'u' => Access::Unknown,
         _ => Access::Plain,
     }
+}
+
+fn form_of(way: &[u8]) -> Form {
+    if wire::byte_at(way, 1) == b'e' {
+        return Form::Encrypted;
+    }
+    Form::Plain
 }
 
 // The bytes from a place on.
@@ -56,14 +65,16 @@ fn again(out: &mut [u8], at: usize, w: Written, room: &[u8], bytes: &[u8]) -> us
 
 pub fn control_packet(out: &mut [u8], at: usize, packet: &[u8], way: &[u8]) -> usize {
     match control::read_control(packet, mode_of(way), access_of(way)) {
-        ControlRead::Refused(n) => text::named(out, at, b" refused ", n as u64),
-        ControlRead::Accepted(c) => {
-            let a = content_text::command(out, at, c);
-            let mut room = [0u8; 65540];
-            let w = control_write::write_control(c, behind(packet, 5), &mut room);
-            again(out, a, w, &room, packet)
-        }
+        ControlRead::Refused(n) => crate::refused(out, at, n),
+        ControlRead::Accepted(c) => command(out, at, c, packet),
     }
+}
+
+fn command(out: &mut [u8], at: usize, c: Command, packet: &[u8]) -> usize {
+    let a = content_text::command(out, at, c);
+    let mut room = crate::full();
+    let w = control_write::write_control(c, behind(packet, 5), &mut room);
+    again(out, a, w, &room, packet)
 }
 
 // One packet in six ways: ok, or the refusal's number.
@@ -85,43 +96,49 @@ fn mark(out: &mut [u8], at: usize, packet: &[u8], way: &[u8]) -> usize {
 }
 
 pub fn uart_message(out: &mut [u8], at: usize, bytes: &[u8], way: &[u8]) -> usize {
-    let mode = mode_of(way);
-    let read = match wire::byte_at(way, 1) {
-        b'!' => message::read_message(bytes, Form::Plain, true, mode),
-        b'e' => message::read_message(bytes, Form::Encrypted, false, mode),
-        b'E' => message::read_message(bytes, Form::Encrypted, true, mode),
-        _ => message::read_message(bytes, Form::Plain, false, mode),
-    };
-    match read {
-        MessageRead::Refused(n) => text::named(out, at, b" refused ", n as u64),
-        MessageRead::Accepted(m) => {
-            let a = content_text::message(out, at, m);
-            let mut room = [0u8; 507];
-            let parts = behind(behind(bytes, 2), message::parts_at(m));
-            let w = message_write::write_message(m, parts, &mut room);
-            again(out, a, w, &room, bytes)
-        }
+    let required = wire::byte_at(way, 2) == b'!';
+    match message::read_message(bytes, form_of(way), required, mode_of(way)) {
+        MessageRead::Refused(n) => crate::refused(out, at, n),
+        MessageRead::Accepted(m) => message(out, at, m, bytes),
     }
+}
+
+fn message(out: &mut [u8], at: usize, m: Message, bytes: &[u8]) -> usize {
+    let a = content_text::message(out, at, m);
+    let mut room = [0u8; 507];
+    let parts = behind(behind(bytes, 2), message::parts_at(m));
+    let w = message_write::write_message(m, parts, &mut room);
+    again(out, a, w, &room, bytes)
 }
 
 pub fn result_packet(out: &mut [u8], at: usize, packet: &[u8]) -> usize {
     match result::read_result(packet) {
-        ResultRead::Done(r) => result_as(out, at, b" done", r, packet),
-        ResultRead::Waiting(r) => result_as(out, at, b" waiting", r, packet),
-        ResultRead::Failed(r) => result_as(out, at, b" failed", r, packet),
-        ResultRead::Refused(n) => text::named(out, at, b" refused ", n as u64),
+        ResultRead::Done(r) => result_as(out, at, 0, r, packet),
+        ResultRead::Waiting(r) => result_as(out, at, 1, r, packet),
+        ResultRead::Failed(r) => result_as(out, at, 2, r, packet),
+        ResultRead::Refused(n) => crate::refused(out, at, n),
     }
 }
 
 // What came of the command; the command, the code, the payload.
-fn result_as(out: &mut [u8], at: usize, outcome: &[u8], r: ResultPacket, packet: &[u8]) -> usize {
-    let a = text::put(out, at, outcome);
-    let b = text::decimals(out, a, &[r.command as u64, r.code as u64]);
+fn result_as(out: &mut [u8], at: usize, outcome: usize, r: ResultPacket, packet: &[u8]) -> usize {
+    let words = b" done , waiting , failed ";
+    let a = text::named(
+        out,
+        at,
+        reading::field(words, b',', outcome),
+        r.command as u64,
+    );
+    let b = text::named(out, a, b" ", r.code as u64);
     let payload = r.payload;
     let c = content_text::part(out, b, payload);
+    result_back(out, c, r, packet)
+}
+
+fn result_back(out: &mut [u8], at: usize, r: ResultPacket, packet: &[u8]) -> usize {
     let mut room = [0u8; 64];
     let w = result::write_result(r, packet, &mut room);
-    again(out, c, w, &room, packet)
+    again(out, at, w, &room, packet)
 }
 
 pub fn key(out: &mut [u8], at: usize, index: u8) -> usize {

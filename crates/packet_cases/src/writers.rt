@@ -129,7 +129,7 @@ fn write(bytes: &[u8], line: &[u8], room: &mut [u8], n: usize) -> Written {
 pub fn written(out: &mut [u8], at: usize, bytes: &[u8], line: &[u8]) -> usize {
     let v = reading::field(line, b'|', 5);
     let n = number(v, 0) as usize;
-    let mut room = [0xEEu8; 65548];
+    let mut room = crate::full();
     let a = told(out, at, write(bytes, line, &mut room, n));
     contents(
         out,
@@ -142,7 +142,7 @@ pub fn written(out: &mut [u8], at: usize, bytes: &[u8], line: &[u8]) -> usize {
 fn told(out: &mut [u8], at: usize, w: Written) -> usize {
     match w {
         Written::Wrote(n) => text::named(out, at, b" wrote ", n as u64),
-        Written::Refused(n) => text::named(out, at, b" refused ", n as u64),
+        Written::Refused(n) => crate::refused(out, at, n),
     }
 }
 
