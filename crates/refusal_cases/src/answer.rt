@@ -5,12 +5,14 @@ use bridge::Answer;
 use bridge::CommandAnswer;
 use bridge::Refusal;
 use bridge::Reply;
+use control::Command;
+use message::Message;
 use session::Connection;
 use session::Session;
 use wire::Part;
 
 fn refused(out: &mut [u8], at: usize, r: Refusal) -> usize {
-    let told = text::named(out, at, b": refused ", r.number as u64);
+    let told = text::named(out, at, b" refused ", r.number as u64);
     let reply = r.reply;
     match reply {
         Reply::Nothing => text::put(out, told, b" no reply"),
@@ -25,12 +27,20 @@ fn bytes(out: &mut [u8], at: usize, name: &[u8], s: &[u8]) -> usize {
     text::hex(out, named, s)
 }
 
+fn accepted_message(out: &mut [u8], at: usize, m: Message, payload: &[u8]) -> usize {
+    let told = content_text::message(out, at, m);
+    bytes(out, told, b" accepted, payload ", payload)
+}
+
+fn accepted_command(out: &mut [u8], at: usize, c: Command, payload: &[u8]) -> usize {
+    let told = content_text::command(out, at, c);
+    bytes(out, told, b" accepted, payload ", payload)
+}
+
 pub fn message<'a>(out: &mut [u8], at: usize, a: Answer, frame: &'a [u8], work: &'a [u8]) -> usize {
     match a {
         Answer::Accepted(m, place) => {
-            let named = text::put(out, at, b": accepted");
-            let told = content_text::message(out, named, m);
-            bytes(out, told, b" payload ", bridge::payload(frame, work, place))
+            accepted_message(out, at, m, bridge::payload(frame, work, place))
         }
         Answer::Refused(r) => refused(out, at, r),
     }
@@ -45,14 +55,7 @@ pub fn command<'a>(
 ) -> usize {
     match a {
         CommandAnswer::Accepted(c, place) => {
-            let named = text::put(out, at, b": accepted");
-            let told = content_text::command(out, named, c);
-            bytes(
-                out,
-                told,
-                b" payload ",
-                bridge::payload(packet, work, place),
-            )
+            accepted_command(out, at, c, bridge::payload(packet, work, place))
         }
         CommandAnswer::Refused(r) => refused(out, at, r),
     }

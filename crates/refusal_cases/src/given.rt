@@ -16,26 +16,11 @@ pub fn letter(line: &[u8], field: usize, at: usize) -> u8 {
     wire::byte_at(reading::field(line, b'|', field), at)
 }
 
-// The key of a letter: none for any other.
+// The key of a letter, which is not held where it is -.
 fn key(letter: u8) -> Key {
-    match letter {
-        b'A' => Key {
-            held: true,
-            bytes: *b"\x10\x11\x12\x13\x14\x15\x16\x17\x18\x19\x1a\x1b\x1c\x1d\x1e\x1f",
-        },
-        b'M' => Key {
-            held: true,
-            bytes: *b"\x30\x31\x32\x33\x34\x35\x36\x37\x38\x39\x3a\x3b\x3c\x3d\x3e\x3f",
-        },
-        b'B' => Key {
-            held: true,
-            bytes: *b"\x50\x51\x52\x53\x54\x55\x56\x57\x58\x59\x5a\x5b\x5c\x5d\x5e\x5f",
-        },
-        b'S' => Key {
-            held: true,
-            bytes: *b"\x70\x71\x72\x73\x74\x75\x76\x77\x78\x79\x7a\x7b\x7c\x7d\x7e\x7f",
-        },
-        _ => Key::none(),
+    Key {
+        held: letter != b'-',
+        bytes: [letter, 1, 2, 3, 4, 5, 6, 7, 8, 9, 10, 11, 12, 13, 14, 15],
     }
 }
 
@@ -100,18 +85,13 @@ pub fn link(line: &[u8]) -> Link {
 
 // The bytes behind the fourth, enciphered.
 fn encipher(seal: &[u8], room: &mut [u8], len: usize) {
-    let head = [
-        wire::byte_at(room, 0),
-        wire::byte_at(room, 1),
-        wire::byte_at(room, 2),
-    ];
     let key = key(wire::byte_at(seal, 0));
     let secret = key.bytes;
     let blocks = Part { start: 4, len };
     let mut body = [0u8; 512];
     aes::apply_ctr(
         secret,
-        head,
+        [1, 2, 3],
         nonce(reading::field(seal, b' ', 1)),
         wire::part_of(room, blocks),
         &mut body,

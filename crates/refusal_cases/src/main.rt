@@ -1,28 +1,48 @@
 // Every refusal of the opener on both routes with its reply, the order of two broken rules, what is accepted with its fields and payload, the session
-// and the work buffer afterwards. The cases are the lines of standard input; a line that starts with # is a comment. A case has these fields, with |
-// between:
+// and the whole work buffer afterwards. The cases are the lines of standard input; a line that starts with # is a comment. A case has these fields, with
+// | between:
 //
-// 0 label
+// 0 label, with its colon
 // 1 route, mode, setting: u a frame or c a characteristic packet; n normal or s setup mode; for a frame r where encryption is required or - where not
 // 2 keys held as admin, member, basic and setup key, AMBS, with - for one that is absent
 // 3 for a frame the session: nonce, minutes, set time, 1 or 0 for one that is there or not; for a packet the connection: nonce, validation key, 1 or 0
 // 4 for a frame the time now
-// 5 for a frame major, minor and wrapper type
+// 5 for a frame major, minor and wrapper type, a byte each
 // 6 length of the work buffer, which is full of EE
-// 7 the key and the session nonce under which the payload or packet is enciphered here, from its fifth byte on; = where it is given as it stands
-// 8 the payload or packet: packet nonce, key ID or level, and its blocks as they are to be deciphered, right or wrong; or as it stands
+// 7 key and session nonce under which the payload or packet is enciphered here, from its fifth byte on; = where it is given as it stands
+// 8 the payload or packet: packet nonce 01 02 03, key ID or level, and its blocks as they are to be deciphered, right or wrong; or as it stands
 //
-// Bytes are in base 16, with + between two pieces; 00*6 is six times 00. The letters A, M, B, S stand for four keys, - for zeros.
+// Bytes are in base 16, with + between two pieces; 00*6 is six times 00. What comes of a case is one line: the label; the content and payload accepted, or
+// the refusal and its reply; the session as field 3 has it, or that it is kept; the work buffer.
 mod answer;
 mod given;
 
 use libc::STDIN_FILENO;
 use libc::STDOUT_FILENO;
+use session::Connection;
+use session::Session;
 use text::reading;
 use wire::Part;
 
-// A frame's case.
-fn frame(line: &[u8], payload: &[u8], out: &mut [u8], at: usize, work: &mut [u8]) -> usize {
+// Where the text of an answer ends, and the session after it.
+struct AfterFrame {
+    end: usize,
+    session: Session,
+}
+
+struct AfterPacket {
+    end: usize,
+    connection: Connection,
+}
+
+// A frame's answer.
+fn open_frame(
+    line: &[u8],
+    payload: &[u8],
+    out: &mut [u8],
+    at: usize,
+    work: &mut [u8],
+) -> AfterFrame {
     let mut head = [0u8; 3];
     reading::bytes(&mut head, 0, reading::field(line, b'|', 5));
     let opened = bridge::uart::open(
@@ -34,19 +54,39 @@ fn frame(line: &[u8], payload: &[u8], out: &mut [u8], at: usize, work: &mut [u8]
         work,
     );
     let answer = opened.answer;
+    let end = answer::message(out, at, answer, payload, work);
     let session = opened.session;
-    let told = answer::message(out, at, answer, payload, work);
-    let after = answer::session(out, told, reading::field(line, b'|', 3), session);
+    AfterFrame { end, session }
+}
+
+// A characteristic packet's answer.
+fn open_packet(
+    line: &[u8],
+    packet: &[u8],
+    out: &mut [u8],
+    at: usize,
+    work: &mut [u8],
+) -> AfterPacket {
+    let opened = bridge::characteristic::open(packet, given::link(line), work);
+    let answer = opened.answer;
+    let end = answer::command(out, at, answer, packet, work);
+    let connection = opened.connection;
+    AfterPacket { end, connection }
+}
+
+// A frame's case.
+fn frame(line: &[u8], payload: &[u8], out: &mut [u8], at: usize, work: &mut [u8]) -> usize {
+    let answer = open_frame(line, payload, out, at, work);
+    let session = answer.session;
+    let after = answer::session(out, answer.end, reading::field(line, b'|', 3), session);
     answer::work(out, after, work)
 }
 
 // A characteristic packet's case.
 fn packet(line: &[u8], packet: &[u8], out: &mut [u8], at: usize, work: &mut [u8]) -> usize {
-    let opened = bridge::characteristic::open(packet, given::link(line), work);
-    let answer = opened.answer;
-    let connection = opened.connection;
-    let told = answer::command(out, at, answer, packet, work);
-    let after = answer::connection(out, told, reading::field(line, b'|', 3), connection);
+    let answer = open_packet(line, packet, out, at, work);
+    let connection = answer.connection;
+    let after = answer::connection(out, answer.end, reading::field(line, b'|', 3), connection);
     answer::work(out, after, work)
 }
 
