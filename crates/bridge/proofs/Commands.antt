@@ -20,9 +20,10 @@ use Rattle.envelope.specs.Characteristic.{characteristicRules, packetIn}
 use Rattle.envelope.proofs.Envelopes.{length-deciphered}
 use Rattle.envelope.proofs.Unsealed.{packet-sized}
 use Rattle.bridge.specs.Characteristic.{levelKey, connectionRules, packetEntryRules, packetText, packetTextRules, packetOpenRules, acceptedCommand, characteristicAnswerOf, characteristicWorkAfter}
-use Rattle.bridge.specs.Opening.{refusedCommand, commandAnswerBy, commandTextAnswer}
+use Rattle.bridge.specs.Opening.{refusedCommand, commandAnswerBy, commandTextAnswer, commandWorkBy}
 use Rattle.bridge.proofs.Judging.{blocks-whole, stopped-before, accepted-behind, refused-behind}
 use Rattle.bridge.specs.declared.Link.{Link}
+use Rattle.bridge.specs.declared.CommandAnswer.{CommandAnswer}
 use Rattle.bridge.specs.declared.CommandAnswer.the-variants.{Accepted, Refused}
 use Rattle.bridge.specs.declared.Place.{Place}
 use Rattle.bridge.specs.declared.Refusal.{Refusal}
@@ -75,7 +76,7 @@ module _ (k : Link) (p work : List ℕ) where
     unfolding packetText
     long = length-deciphered (levelKey k p .bytes) (k .connection .nonce) p ∙ (let e : length p - 4 ≡ 16 * blocksIn p = omega (arith, whole .0) in e)
 
-    pub accepted-after : {c : Command} {at : Place} {after : List ℕ} → Accepted c at ≡ commandTextAnswer k (getD p 3 0) (packetText k p)
+    accepted-after : {c : Command} {at : Place} {after : List ℕ} → Accepted c at ≡ commandTextAnswer k (getD p 3 0) (packetText k p)
         → after ≡ packetText k p ++ drop (16 * blocksIn p) work
         → (Accepted c at ≡ characteristicAnswerOf k (length work) p) × (after ≡ characteristicWorkAfter k p work)
     unfolding commandTextAnswer characteristicWorkAfter
@@ -85,7 +86,7 @@ module _ (k : Link) (p work : List ℕ) where
         let s = accepted-behind refusedCommand (acceptedCommand t) (packetEntryRules k (length work) p) r (blocksIn p) t work long entered e (none-broken (firstBroken r) t e) w in
         (s .0 ∙ sym halves, s .1)
 
-    pub refused-after : {r : Refusal} {before after : List ℕ} {n : ℕ} → Refused r ≡ commandTextAnswer k (getD p 3 0) (packetText k p)
+    refused-after : {r : Refusal} {before after : List ℕ} {n : ℕ} → Refused r ≡ commandTextAnswer k (getD p 3 0) (packetText k p)
         → before ≡ packetText k p ++ drop (16 * blocksIn p) work → n ≡ 16 * blocksIn p → after ≡ cleared n before
         → (Refused r ≡ characteristicAnswerOf k (length work) p) × (after ≡ characteristicWorkAfter k p work)
     unfolding commandTextAnswer characteristicWorkAfter
@@ -94,3 +95,10 @@ module _ (k : Link) (p work : List ℕ) where
         let r = packetTextRules k (getD p 3 0) t in
         let s = refused-behind refusedCommand (acceptedCommand t) (packetEntryRules k (length work) p) r (blocksIn p) t work long entered e (some-broken (firstBroken r) t e) w q c in
         (s .0 ∙ sym halves, s .1)
+
+    -- either, by the answer
+    pub answered-after : (a : CommandAnswer) {before after : List ℕ} {n : ℕ} → a ≡ commandTextAnswer k (getD p 3 0) (packetText k p)
+        → before ≡ packetText k p ++ drop (16 * blocksIn p) work → n ≡ 16 * blocksIn p → after ≡ commandWorkBy n before a
+        → (a ≡ characteristicAnswerOf k (length work) p) × (after ≡ characteristicWorkAfter k p work)
+    answered-after (Accepted c at) e w q z = accepted-after e (z ∙ w)
+    answered-after (Refused r) e w q z = refused-after e w q z

@@ -21,9 +21,10 @@ use Rattle.envelope.specs.Blocks.{blocksIn, cleared}
 use Rattle.envelope.specs.Sealed.{messageIn}
 use Rattle.envelope.proofs.Envelopes.{length-deciphered}
 use Rattle.bridge.specs.Opener.{plainRules, acceptedMessage, sessionRules, uartEntryRules, uartText, uartTextRules, headRules, uartOpenRules, answerOf, workAfter, adminKey}
-use Rattle.bridge.specs.Opening.{refusedAnswer, answerBy, plainAnswer, textAnswer, sealedAnswer, sealedWork, blocksAfter}
+use Rattle.bridge.specs.Opening.{refusedAnswer, answerBy, plainAnswer, textAnswer, sealedAnswer, sealedWork, blocksAfter, workBy}
 use Rattle.bridge.proofs.Judging.{blocks-whole, stopped-before, accepted-behind, refused-behind}
 use Rattle.bridge.specs.declared.Context.{Context}
+use Rattle.bridge.specs.declared.Answer.{Answer}
 use Rattle.bridge.specs.declared.Answer.the-variants.{Accepted, Refused}
 use Rattle.bridge.specs.declared.Place.{Place}
 use Rattle.bridge.specs.declared.Refusal.{Refusal}
@@ -72,7 +73,7 @@ module _ (g : Context) (p work : List ℕ) (entered : firstBroken (uartEntryRule
   unfolding uartText
   long = length-deciphered (adminKey g .bytes) (g .session .nonce) p ∙ (let e : length p - 4 ≡ 16 * blocksIn p = omega (arith, whole .0) in e)
 
-  pub accepted-after : {m : Message} {at : Place} {after : List ℕ} → Accepted m at ≡ textAnswer g (uartText g p)
+  accepted-after : {m : Message} {at : Place} {after : List ℕ} → Accepted m at ≡ textAnswer g (uartText g p)
       → after ≡ uartText g p ++ drop (16 * blocksIn p) work → (Accepted m at ≡ sealedAnswer g (length work) p) × (after ≡ sealedWork g p work)
   unfolding textAnswer sealedAnswer sealedWork
   accepted-after e w =
@@ -80,7 +81,7 @@ module _ (g : Context) (p work : List ℕ) (entered : firstBroken (uartEntryRule
       accepted-behind refusedAnswer (acceptedMessage true 6 (messageIn t)) (uartEntryRules g (length work) p) (uartTextRules g t) (blocksIn p) t work long entered e
       (none-broken (firstBroken (uartTextRules g t)) (messageIn t) e) w
 
-  pub refused-after : {r : Refusal} {before after : List ℕ} {k : ℕ} → Refused r ≡ textAnswer g (uartText g p)
+  refused-after : {r : Refusal} {before after : List ℕ} {k : ℕ} → Refused r ≡ textAnswer g (uartText g p)
       → before ≡ uartText g p ++ drop (16 * blocksIn p) work → k ≡ 16 * blocksIn p → after ≡ cleared k before
       → (Refused r ≡ sealedAnswer g (length work) p) × (after ≡ sealedWork g p work)
   unfolding textAnswer sealedAnswer sealedWork
@@ -88,6 +89,13 @@ module _ (g : Context) (p work : List ℕ) (entered : firstBroken (uartEntryRule
       let t = uartText g p in
       refused-behind refusedAnswer (acceptedMessage true 6 (messageIn t)) (uartEntryRules g (length work) p) (uartTextRules g t) (blocksIn p) t work long entered e
       (some-broken (firstBroken (uartTextRules g t)) (messageIn t) e) w q c
+
+  -- either, by the answer
+  pub answered-after : (a : Answer) {before after : List ℕ} {k : ℕ} → a ≡ textAnswer g (uartText g p)
+      → before ≡ uartText g p ++ drop (16 * blocksIn p) work → k ≡ 16 * blocksIn p → after ≡ workBy k before a
+      → (a ≡ sealedAnswer g (length work) p) × (after ≡ sealedWork g p work)
+  answered-after (Accepted m at) e w q c = accepted-after e (c ∙ w)
+  answered-after (Refused r) e w q c = refused-after e w q c
 
 -- refused before it is deciphered
 pub refused-before : (g : Context) (p work : List ℕ) (n : ℕ) → n ≡ firstBroken (uartEntryRules g (length work) p) → (n ≡ 0 → ⊥)

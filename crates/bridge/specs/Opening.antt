@@ -9,7 +9,7 @@ use Rattle.message.specs.declared.MessageRead.{MessageRead}
 use Rattle.message.specs.declared.MessageRead.the-variants.{Accepted as ReadAccepted, Refused as ReadRefused}
 use Rattle.control.specs.declared.ControlRead.{ControlRead}
 use Rattle.control.specs.declared.ControlRead.the-variants.{Accepted as ControlAccepted, Refused as ControlRefused}
-use Rattle.envelope.specs.Blocks.{blocksIn}
+use Rattle.envelope.specs.Blocks.{blocksIn, cleared}
 use Rattle.envelope.specs.Sealed.{messageIn}
 use Rattle.bridge.specs.Reply.{refusalOf, characteristicRefusal}
 use Rattle.bridge.specs.Place.{placeFrom}
@@ -48,6 +48,11 @@ unfoldable pub sealedWork : Context → List ℕ → List ℕ → List ℕ
 sealedWork g p work =
     judge (λ n. work) (uartEntryRules g (length work) p) (blocksAfter (blocksIn p) (uartTextRules g (uartText g p)) (uartText g p) work)
 
+-- what an answer leaves of a work buffer whose first n bytes were deciphered
+abbrev pub workBy : ℕ → List ℕ → Answer → List ℕ
+workBy n work (Accepted m at) = work
+workBy n work (Refused r) = cleared n work
+
 -- ---- a characteristic packet
 abbrev pub refusedCommand : ℕ → CommandAnswer
 refusedCommand n = CommandRefused (characteristicRefusal n)
@@ -60,3 +65,7 @@ commandAnswerBy end (ControlRefused n) = refusedCommand n
 -- what a packet deciphered to
 unfoldable pub commandTextAnswer : Link → ℕ → List ℕ → CommandAnswer
 commandTextAnswer k level text = judge refusedCommand (packetTextRules k level text) (acceptedCommand text)
+
+abbrev pub commandWorkBy : ℕ → List ℕ → CommandAnswer → List ℕ
+commandWorkBy n work (CommandAccepted c at) = work
+commandWorkBy n work (CommandRefused r) = cleared n work

@@ -117,6 +117,16 @@ fn decipher(packet: &[u8], link: Link, work: &mut [u8])
     envelope::decipher(bytes, nonce, packet, work);
 }
 
+// A refusal leaves the first n work bytes zero.
+fn clear_refused(answer: CommandAnswer, work: &mut [u8], n: usize)
+    ensures { λ _. ⌜ now (work .exit) ≡ opening.commandWorkBy n (now (work .entry)) answer ⌝ }
+{
+    match answer {
+        CommandAnswer::Accepted(_, _) => (),
+        CommandAnswer::Refused(_) => envelope::clear(work, n),
+    }
+}
+
 // A packet's answer.
 fn open_packet(packet: &[u8], link: Link, work: &mut [u8]) -> CommandAnswer
     ensures { λ a. ⌜ (a ≡ specs.characteristicAnswerOf link (length (now (work .entry))) (now (packet .entry)))
@@ -130,13 +140,8 @@ fn open_packet(packet: &[u8], link: Link, work: &mut [u8]) -> CommandAnswer
     let n = packet.len() - 4;
     let blocks = Part { start: 0, len: n };
     let answer = read_text(wire::part_of(work, blocks), wire::byte_at(packet, 3), link);
-    match answer {
-        CommandAnswer::Accepted(c, at) => CommandAnswer::Accepted(c, at),
-        CommandAnswer::Refused(r) => {
-            envelope::clear(work, n);
-            CommandAnswer::Refused(r)
-        }
-    }
+    clear_refused(answer, work, n);
+    answer
 }
 
 // Opens a characteristic packet: the command and where its payload lies, or the refusal with its reply; and the connection session after it.

@@ -175,6 +175,16 @@ fn decipher(payload: &[u8], context: Context, work: &mut [u8])
     envelope::decipher(bytes, nonce, payload, work);
 }
 
+// A refusal leaves the first n work bytes zero.
+fn clear_refused(answer: Answer, work: &mut [u8], n: usize)
+    ensures { λ _. ⌜ now (work .exit) ≡ opening.workBy n (now (work .entry)) answer ⌝ }
+{
+    match answer {
+        Answer::Accepted(_, _) => (),
+        Answer::Refused(_) => envelope::clear(work, n),
+    }
+}
+
 // An encrypted message.
 fn open_sealed(payload: &[u8], context: Context, work: &mut [u8]) -> Answer
     ensures { λ a. ⌜ (a ≡ opening.sealedAnswer context (length (now (work .entry))) (now (payload .entry)))
@@ -188,13 +198,8 @@ fn open_sealed(payload: &[u8], context: Context, work: &mut [u8]) -> Answer
     let n = payload.len() - 4;
     let blocks = Part { start: 0, len: n };
     let answer = read_text(wire::part_of(work, blocks), context);
-    match answer {
-        Answer::Accepted(m, at) => Answer::Accepted(m, at),
-        Answer::Refused(r) => {
-            envelope::clear(work, n);
-            Answer::Refused(r)
-        }
-    }
+    clear_refused(answer, work, n);
+    answer
 }
 
 // A frame's answer.

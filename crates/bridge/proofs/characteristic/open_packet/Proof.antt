@@ -9,7 +9,7 @@ use Rattle.envelope.specs.Blocks.{blocksIn}
 use Rattle.bridge.specs.Characteristic.{packetEntryRules, packetText}
 use Rattle.bridge.specs.Opening.{commandTextAnswer}
 use Rattle.bridge.proofs.Judging.{blocks-part}
-use Rattle.bridge.proofs.Commands.{whole, long, accepted-after, refused-after, refused-before}
+use Rattle.bridge.proofs.Commands.{whole, long, answered-after, refused-before}
 use Rattle.bridge.specs.declared.CommandAnswer.the-variants.{Refused}
 use borrow.Author.Needs.{needs}
 use Rattle.bridge.proofs.characteristic.open_packet.Statement.{statement}
@@ -28,33 +28,18 @@ sub-n c =
 
 returns-2 : tie.Need-returns-2
 returns-2 c =
-    let a = c .before .before .before .before .before .before .before .before .before .before .before .before .before .before .before .args in
+    let a = c .before .before .before .before .before .before .before .before .before .before .before .before .before .before .before .before .args in
     let k = a .link in
     let p = a .packet .now in
     let w = a .work .now in
-    let e : firstBroken (packetEntryRules k (length w) p) ≡ 0 = sym (c .before .before .before .before .before .before .before .before .before .before .before .before .entry-refusal .ensures) ∙ c .before .before .before .before .before .before .before .before .before .before .before .if1 .left in
+    let e : firstBroken (packetEntryRules k (length w) p) ≡ 0 = sym (c .before .before .before .before .before .before .before .before .before .before .before .before .before .entry-refusal .ensures) ∙ c .before .before .before .before .before .before .before .before .before .before .before .before .if1 .left in
     let n : length p - 4 ≡ 16 * blocksIn p = omega (arith, whole k p w e .0) in
-    let d = c .before .before .before .before .before .before .before .before .before .decipher .ensures in
-    accepted-after k p w e
-    (sym (c .before .answer .given .1) ∙ c .before .before .before .read-text .ensures
-    ∙ ap₂ (λ (i : ℕ) (l : List ℕ). commandTextAnswer k i l) (c .before .before .before .before .byte-at .ensures .0)
-    (c .before .before .before .before .before .part-of .ensures ∙ blocks-part (blocksIn p) (packetText k p) w (long k p w e) d n))
-    d
-
-returns-3 : tie.Need-returns-3
-returns-3 c =
-    let a = c .before .before .before .before .before .before .before .before .before .before .before .before .before .before .before .before .before .before .before .args in
-    let k = a .link in
-    let p = a .packet .now in
-    let w = a .work .now in
-    let e : firstBroken (packetEntryRules k (length w) p) ≡ 0 = sym (c .before .before .before .before .before .before .before .before .before .before .before .before .before .before .before .before .entry-refusal .ensures) ∙ c .before .before .before .before .before .before .before .before .before .before .before .before .before .before .before .if1 .left in
-    let n : length p - 4 ≡ 16 * blocksIn p = omega (arith, whole k p w e .0) in
-    let d = c .before .before .before .before .before .before .before .before .before .before .before .before .before .decipher .ensures in
-    refused-after k p w e
-    (sym (c .before .before .before .before .before .answer2 .given .1) ∙ c .before .before .before .before .before .before .before .read-text .ensures
-    ∙ ap₂ (λ (i : ℕ) (l : List ℕ). commandTextAnswer k i l) (c .before .before .before .before .before .before .before .before .byte-at .ensures .0)
-    (c .before .before .before .before .before .before .before .before .before .part-of .ensures ∙ blocks-part (blocksIn p) (packetText k p) w (long k p w e) d n))
-    d n (c .before .before .clear .ensures)
+    let d = c .before .before .before .before .before .before .before .before .before .before .decipher .ensures in
+    answered-after k p w e (c .before .before .before .before .read-text .result)
+    (c .before .before .before .before .read-text .ensures
+    ∙ ap₂ (λ (i : ℕ) (l : List ℕ). commandTextAnswer k i l) (c .before .before .before .before .before .byte-at .ensures .0)
+    (c .before .before .before .before .before .before .part-of .ensures ∙ blocks-part (blocksIn p) (packetText k p) w (long k p w e) d n))
+    d n (c .before .before .clear-refused .ensures)
 
 pub open-packet-spec : {M : Type 1} → statement M
 open-packet-spec =
@@ -68,10 +53,6 @@ open-packet-spec =
     (λ c κs. search needs)
     (λ c κs. search needs)
     (λ c κs. search needs)
-    (λ c. search needs)
-    (λ c. search needs)
     (λ c κs. search needs)
     (λ c. search needs)
-    returns-2
-    (λ c. search needs)
-    returns-3)
+    returns-2)

@@ -8,7 +8,7 @@ use Rattle.envelope.specs.Blocks.{blocksIn}
 use Rattle.bridge.specs.Opener.{uartEntryRules, uartText}
 use Rattle.bridge.specs.Opening.{textAnswer}
 use Rattle.bridge.proofs.Judging.{blocks-part}
-use Rattle.bridge.proofs.Opening.{whole, long, accepted-after, refused-after, refused-before}
+use Rattle.bridge.proofs.Opening.{whole, long, answered-after, refused-before}
 use Rattle.bridge.specs.declared.Answer.the-variants.{Refused}
 use borrow.Author.Needs.{needs}
 use Rattle.bridge.proofs.uart.open_sealed.Statement.{statement}
@@ -27,31 +27,17 @@ sub-n c =
 
 returns-2 : tie.Need-returns-2
 returns-2 c =
-    let a = c .before .before .before .before .before .before .before .before .before .before .before .before .before .before .args in
+    let a = c .before .before .before .before .before .before .before .before .before .before .before .before .before .before .before .args in
     let g = a .context in
     let p = a .payload .now in
     let w = a .work .now in
-    let e : firstBroken (uartEntryRules g (length w) p) ≡ 0 = sym (c .before .before .before .before .before .before .before .before .before .before .before .entry-refusal .ensures) ∙ c .before .before .before .before .before .before .before .before .before .before .if1 .left in
+    let e : firstBroken (uartEntryRules g (length w) p) ≡ 0 = sym (c .before .before .before .before .before .before .before .before .before .before .before .before .entry-refusal .ensures) ∙ c .before .before .before .before .before .before .before .before .before .before .before .if1 .left in
     let k : length p - 4 ≡ 16 * blocksIn p = omega (arith, whole g p w e .0) in
-    let d = c .before .before .before .before .before .before .before .before .decipher .ensures in
-    accepted-after g p w e
-    (sym (c .before .answer .given .1) ∙ c .before .before .before .read-text .ensures
-    ∙ ap (textAnswer g) (c .before .before .before .before .part-of .ensures ∙ blocks-part (blocksIn p) (uartText g p) w (long g p w e) d k))
-    d
-
-returns-3 : tie.Need-returns-3
-returns-3 c =
-    let a = c .before .before .before .before .before .before .before .before .before .before .before .before .before .before .before .before .before .before .args in
-    let g = a .context in
-    let p = a .payload .now in
-    let w = a .work .now in
-    let e : firstBroken (uartEntryRules g (length w) p) ≡ 0 = sym (c .before .before .before .before .before .before .before .before .before .before .before .before .before .before .before .entry-refusal .ensures) ∙ c .before .before .before .before .before .before .before .before .before .before .before .before .before .before .if1 .left in
-    let k : length p - 4 ≡ 16 * blocksIn p = omega (arith, whole g p w e .0) in
-    let d = c .before .before .before .before .before .before .before .before .before .before .before .before .decipher .ensures in
-    refused-after g p w e
-    (sym (c .before .before .before .before .before .answer2 .given .1) ∙ c .before .before .before .before .before .before .before .read-text .ensures
-    ∙ ap (textAnswer g) (c .before .before .before .before .before .before .before .before .part-of .ensures ∙ blocks-part (blocksIn p) (uartText g p) w (long g p w e) d k))
-    d k (c .before .before .clear .ensures)
+    let d = c .before .before .before .before .before .before .before .before .before .decipher .ensures in
+    answered-after g p w e (c .before .before .before .before .read-text .result)
+    (c .before .before .before .before .read-text .ensures
+    ∙ ap (textAnswer g) (c .before .before .before .before .before .part-of .ensures ∙ blocks-part (blocksIn p) (uartText g p) w (long g p w e) d k))
+    d k (c .before .before .clear-refused .ensures)
 
 pub open-sealed-spec : {M : Type 1} → statement M
 open-sealed-spec =
@@ -64,10 +50,6 @@ open-sealed-spec =
     sub-n
     (λ c κs. search needs)
     (λ c κs. search needs)
-    (λ c. search needs)
-    (λ c. search needs)
     (λ c κs. search needs)
     (λ c. search needs)
-    returns-2
-    (λ c. search needs)
-    returns-3)
+    returns-2)
