@@ -1,7 +1,7 @@
 // A list of messages, plain and sealed, end to end: sealed, framed, with noise between, received byte by byte by a receiver that is
 // caught inside an unfinished frame, and opened in order, each with the session that the last one left. Then packets of a phone, sealed and
 // opened at each level. Standard input lists them, an item each: NAME|KIND|NUMBERS|BYTES.
-// Kinds: n bytes as they are, p a plain message, 1 and 2 a message sealed for the first or the second session under a packet nonce's number;
+// Kinds: n bytes as they are, p a plain message, s a message sealed for the first or the second session under a packet nonce's number;
 // r the line is received; c a phone's packet with its level, mode and number.
 mod opening;
 mod phone;
@@ -45,8 +45,7 @@ fn item(line: &mut [u8], at: usize, s: &[u8]) -> usize {
     match wire::byte_at(reading::field(s, b'|', 1), 0) {
         b'n' => text::put(line, at, bytes),
         b'p' => framed(line, at, 0, bytes),
-        b'1' => sealed(line, at, FIRST, nonce(v), bytes),
-        b'2' => sealed(line, at, SECOND, nonce(v), bytes),
+        b's' => sealed(line, at, v, bytes),
         b'r' => {
             opening::receive(wire::part_of(line, Part { start: 0, len: at }));
             at
@@ -86,7 +85,17 @@ fn keys() -> Keys {
     }
 }
 
-fn sealed(line: &mut [u8], at: usize, session: [u8; 5], nonce: [u8; 3], message: &[u8]) -> usize {
+// The nonces of two sessions.
+fn session_of(number: u64) -> [u8; 5] {
+    if number == 1 {
+        return FIRST;
+    }
+    SECOND
+}
+
+fn sealed(line: &mut [u8], at: usize, v: &[u8], message: &[u8]) -> usize {
+    let session = session_of(reading::number(v));
+    let nonce = nonce(reading::field(v, b' ', 1));
     let mut room = [0u8; 512];
     match envelope::seal(keys(), Mode::Normal, nonce, session, message, &mut room) {
         Written::Wrote(n) => framed(

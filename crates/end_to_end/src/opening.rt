@@ -67,11 +67,16 @@ fn handle(event: Event, receiver: Receiver, session: Session) -> Session {
     }
 }
 
+// Writes the line that ends at a place.
+pub fn end_line(out: &mut [u8], at: usize) {
+    let n = text::put(out, at, b"\n");
+    io::write_all(1, wire::part_of(out, Part { start: 0, len: n }));
+}
+
 fn receiver_refused(n: u8) {
     let mut out = [0u8; 64];
     let a = text::named(&mut out, 0, b"receiver refused ", n as u64);
-    let b = text::put(&mut out, a, b"\n");
-    io::write_all(1, wire::part_of(&out, Part { start: 0, len: b }));
+    end_line(&mut out, a);
 }
 
 // The work buffer holds other bytes at each opening.
@@ -94,8 +99,7 @@ fn open(major: u8, minor: u8, wrapper: u8, payload: &[u8], session: Session) -> 
 fn show<'a>(answer: Answer, payload: &'a [u8], work: &'a [u8]) {
     let mut out = [0u8; 2048];
     let a = answer_text(&mut out, answer, payload, work);
-    let n = text::put(&mut out, a, b"\n");
-    io::write_all(1, wire::part_of(&out, Part { start: 0, len: n }));
+    end_line(&mut out, a);
 }
 
 fn answer_text<'a>(out: &mut [u8], answer: Answer, payload: &'a [u8], work: &'a [u8]) -> usize {
