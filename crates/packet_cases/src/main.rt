@@ -40,15 +40,14 @@ fn print(line: &[u8], bytes: &[u8]) {
 
 fn answer(out: &mut [u8], at: usize, line: &[u8], bytes: &[u8]) -> usize {
     let way = reading::field(line, b'|', 2);
-    match wire::byte_at(reading::field(line, b'|', 1), 0) {
-        b'c' => readers::control_packet(out, at, bytes, way),
-        b'm' => readers::uart_message(out, at, bytes, way),
-        b'r' => readers::result_packet(out, at, bytes),
+    let kind = wire::byte_at(reading::field(line, b'|', 1), 0);
+    match kind {
+        0 => at,
         b'k' => readers::key(out, at, wire::byte_at(bytes, 0)),
         b'l' => readers::level(out, at, wire::byte_at(bytes, 0)),
         b'a' => readers::marks(out, at, bytes, way),
         b'w' => writers::written(out, at, bytes, line),
-        _ => at,
+        _ => readers::packet(out, at, kind, bytes, way),
     }
 }
 

@@ -63,18 +63,80 @@ fn again(out: &mut [u8], at: usize, w: Written, room: &[u8], bytes: &[u8]) -> us
     }
 }
 
-pub fn control_packet(out: &mut [u8], at: usize, packet: &[u8], way: &[u8]) -> usize {
-    match control::read_control(packet, mode_of(way), access_of(way)) {
-        ControlRead::Refused(n) => crate::refused(out, at, n),
-        ControlRead::Accepted(c) => command(out, at, c, packet),
+// What a reader made of a packet or a message; a result with what came of its command: 0 done, 1 waiting, 2 failed.
+enum Read {
+    Refused(u8),
+    Command(Command),
+    Message(Message),
+    Result(usize, ResultPacket),
+}
+
+fn read_as(kind: u8, bytes: &[u8], way: &[u8]) -> Read {
+    match kind {
+        b'c' => match control::read_control(bytes, mode_of(way), access_of(way)) {
+            ControlRead::Refused(n) => Read::Refused(n),
+            ControlRead::Accepted(c) => Read::Command(c),
+        },
+        b'm' => {
+            let required = wire::byte_at(way, 2) == b'!';
+            match message::read_message(bytes, form_of(way), required, mode_of(way)) {
+                MessageRead::Refused(n) => Read::Refused(n),
+                MessageRead::Accepted(m) => Read::Message(m),
+            }
+        }
+        _ => match result::read_result(bytes) {
+            ResultRead::Done(r) => Read::Result(0, r),
+            ResultRead::Waiting(r) => Read::Result(1, r),
+            ResultRead::Failed(r) => Read::Result(2, r),
+            ResultRead::Refused(n) => Read::Refused(n),
+        },
     }
 }
 
-fn command(out: &mut [u8], at: usize, c: Command, packet: &[u8]) -> usize {
-    let a = content_text::command(out, at, c);
+fn content(out: &mut [u8], at: usize, r: Read) -> usize {
+    match r {
+        Read::Refused(n) => crate::refused(out, at, n),
+        Read::Command(c) => content_text::command(out, at, c),
+        Read::Message(m) => content_text::message(out, at, m),
+        Read::Result(outcome, p) => result_content(out, at, outcome, p),
+    }
+}
+
+// What came of the command; the command, the code, the payload.
+fn result_content(out: &mut [u8], at: usize, outcome: usize, r: ResultPacket) -> usize {
+    let words = b" done , waiting , failed ";
+    let a = text::named(
+        out,
+        at,
+        reading::field(words, b',', outcome),
+        r.command as u64,
+    );
+    let b = text::named(out, a, b" ", r.code as u64);
+    let payload = r.payload;
+    content_text::part(out, b, payload)
+}
+
+fn write(r: Read, bytes: &[u8], room: &mut [u8]) -> Written {
+    match r {
+        Read::Refused(n) => Written::Refused(n),
+        Read::Command(c) => control_write::write_control(c, behind(bytes, 5), room),
+        Read::Message(m) => {
+            let parts = behind(behind(bytes, 2), message::parts_at(m));
+            message_write::write_message(m, parts, room)
+        }
+        Read::Result(_, p) => result::write_result(p, bytes, room),
+    }
+}
+
+pub fn packet(out: &mut [u8], at: usize, kind: u8, bytes: &[u8], way: &[u8]) -> usize {
+    let r = read_as(kind, bytes, way);
+    let a = content(out, at, r);
+    if let Read::Refused(_) = r {
+        return a;
+    }
     let mut room = crate::full();
-    let w = control_write::write_control(c, behind(packet, 5), &mut room);
-    again(out, a, w, &room, packet)
+    let w = write(r, bytes, &mut room);
+    again(out, a, w, &room, bytes)
 }
 
 // One packet in six ways: ok, or the refusal's number.
@@ -89,56 +151,10 @@ pub fn marks(out: &mut [u8], at: usize, packet: &[u8], ways: &[u8]) -> usize {
 }
 
 fn mark(out: &mut [u8], at: usize, packet: &[u8], way: &[u8]) -> usize {
-    match control::read_control(packet, mode_of(way), access_of(way)) {
-        ControlRead::Refused(n) => text::named(out, at, b" ", n as u64),
-        ControlRead::Accepted(_) => text::put(out, at, b" ok"),
+    match read_as(b'c', packet, way) {
+        Read::Refused(n) => text::named(out, at, b" ", n as u64),
+        _ => text::put(out, at, b" ok"),
     }
-}
-
-pub fn uart_message(out: &mut [u8], at: usize, bytes: &[u8], way: &[u8]) -> usize {
-    let required = wire::byte_at(way, 2) == b'!';
-    match message::read_message(bytes, form_of(way), required, mode_of(way)) {
-        MessageRead::Refused(n) => crate::refused(out, at, n),
-        MessageRead::Accepted(m) => message(out, at, m, bytes),
-    }
-}
-
-fn message(out: &mut [u8], at: usize, m: Message, bytes: &[u8]) -> usize {
-    let a = content_text::message(out, at, m);
-    let mut room = [0u8; 507];
-    let parts = behind(behind(bytes, 2), message::parts_at(m));
-    let w = message_write::write_message(m, parts, &mut room);
-    again(out, a, w, &room, bytes)
-}
-
-pub fn result_packet(out: &mut [u8], at: usize, packet: &[u8]) -> usize {
-    match result::read_result(packet) {
-        ResultRead::Done(r) => result_as(out, at, 0, r, packet),
-        ResultRead::Waiting(r) => result_as(out, at, 1, r, packet),
-        ResultRead::Failed(r) => result_as(out, at, 2, r, packet),
-        ResultRead::Refused(n) => crate::refused(out, at, n),
-    }
-}
-
-// What came of the command; the command, the code, the payload.
-fn result_as(out: &mut [u8], at: usize, outcome: usize, r: ResultPacket, packet: &[u8]) -> usize {
-    let words = b" done , waiting , failed ";
-    let a = text::named(
-        out,
-        at,
-        reading::field(words, b',', outcome),
-        r.command as u64,
-    );
-    let b = text::named(out, a, b" ", r.code as u64);
-    let payload = r.payload;
-    let c = content_text::part(out, b, payload);
-    result_back(out, c, r, packet)
-}
-
-fn result_back(out: &mut [u8], at: usize, r: ResultPacket, packet: &[u8]) -> usize {
-    let mut room = [0u8; 64];
-    let w = result::write_result(r, packet, &mut room);
-    again(out, at, w, &room, packet)
 }
 
 pub fn key(out: &mut [u8], at: usize, index: u8) -> usize {
