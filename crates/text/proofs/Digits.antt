@@ -1,13 +1,15 @@
 -- The digits of a number, the last first, and the turns of the loops that put texts. Assumes nothing.
-use mathlib.Core.Path.{_≡_, refl, sym, ap, _∙_}
+use mathlib.Core.Path.{_≡_, sym, _∙_}
 use mathlib.Core.List.{List, [], _∷_, _++_, append-nil}
 use Prim.Native.Nat.{ℕ, zero, suc, _+_, _^_, _/_, _%_, _≤_, _<_}
 use native.Mathlib.Nat.{pow-suc}
 use native.Mathlib.Numerals.{add-one}
 use native.Mathlib.Omega.{arith}
-use lib.ListN.{length, drop, set, getD, length-set, drop-of-length-le}
+use lib.ListN.{length, drop, set, getD, length-set, drop-of-length-le, length-append}
 use lib.Seq.{drop-cons, drop-set-lt, getD-set-same, append-snoc}
+use lib.Dec.{ltb}
 use borrow.Author.Tests.{lt-ltb, le-ltb}
+use Rattle.wire.proofs.Choice.{pick-all}
 use Rattle.text.specs.Digits.{digit, decimalIn, decimal, decimals, hex}
 
 -- ---- a number's last digits stand at the end of a room of 20 bytes, and those of the rest are to come in front of them
@@ -59,6 +61,14 @@ module _ {n : ℕ} {room : List ℕ} {i rest : ℕ} (l : Left n room i rest) (j 
   left-none h q =
       let k : rest < 10 = omega arith in
       rw (q, set-front room j (digit rest) (omega arith), lt-ltb rest 10 k) (rw (e, lt-ltb rest 10 k) at (l .same))
+
+pub decimal-length : (k n : ℕ) → length (decimalIn k n) ≤ k
+unfolding decimalIn
+decimal-length zero n = omega arith
+decimal-length (suc k) n =
+    pick-all (λ (l : List ℕ). length l ≤ suc k) (ltb n 10)
+    (λ e. omega arith)
+    (λ e. omega (arith, length-append (decimalIn k (n / 10)) (digit (n % 10) ∷ []), decimal-length k (n / 10)))
 
 -- ---- at a place of a list
 pub decimals-at : (s : List ℕ) (i : ℕ) → i < length s → decimals (drop i s) ≡ (32 ∷ decimal (getD s i 0)) ++ decimals (drop (i + 1) s)

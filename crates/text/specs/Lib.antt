@@ -1,3 +1,4 @@
 pub mod Puts
 pub mod Digits
 pub mod Reading
+pub mod Ascii
