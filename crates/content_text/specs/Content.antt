@@ -5,6 +5,7 @@ use mathlib.Core.List.{List, [], _∷_, _++_}
 use lib.ListN.{length, take}
 use Rattle.wire.specs.Parts.{part}
 use Rattle.wire.specs.declared.Part.{Part}
+use Rattle.text.specs.Ascii.{ascii}
 use Rattle.text.specs.Digits.{decimalIn, decimal, decimals}
 use Rattle.control.specs.Command.{commandNumber, commandValues, commandParts}
 use Rattle.control.specs.declared.Command.{Command}
@@ -37,13 +38,11 @@ pub record Lists (n : Numbers) (ns : List ℕ) : Type 0 where
   pub count : n .0 ≤ length (n .1)
   pub same : take (n .0) (n .1) ≡ ns
 
--- ---- set state of type 7, ` 3 7 0 1 0 6+2`; a control message with a switch, ` 10 20 100`
-example-command :
-    commandText (SetState (record { kind = 7; id = 0; mode = 1; value = part 6 2 }))
-    ≡ 32 ∷ 51 ∷ 32 ∷ 55 ∷ 32 ∷ 48 ∷ 32 ∷ 49 ∷ 32 ∷ 48 ∷ 32 ∷ 54 ∷ 43 ∷ 50 ∷ []
+-- ---- set state of type 300 with a value of two bytes, and a control message with a switch
+example-command : commandText (SetState (record { kind = 300; id = 0; mode = 1; value = part 6 2 })) ≡ ascii " 3 300 0 1 0 6+2"
 unfolding decimalIn decimals
 example-command = refl
 
-example-message : messageText (Control (Switch 100)) ≡ 32 ∷ 49 ∷ 48 ∷ 32 ∷ 50 ∷ 48 ∷ 32 ∷ 49 ∷ 48 ∷ 48 ∷ []
+example-message : messageText (Control (Switch 100)) ≡ ascii " 10 20 100"
 unfolding decimalIn decimals
 example-message = refl
