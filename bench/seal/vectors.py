@@ -17,9 +17,9 @@ def key(level):
     return bytes(range(KEYS[level], KEYS[level] + 16))
 
 
-def serves(mode, level):
-    """level 100 has a key only in setup mode, levels 0, 1 and 2 only in normal mode"""
-    return (level == "setup") == (mode == "setup")
+def serves(mode, level, keys):
+    """level 100 has a key only in setup mode, levels 0, 1 and 2 only in normal mode, and each key may be absent"""
+    return (level == "setup") == (mode == "setup") and level[0].upper() in keys
 
 
 def nonce(n):
@@ -39,32 +39,34 @@ def image(level, number, n, text):
 
 
 def show(name, n, sealed, limits, room, held):
+    """17 for a size outside the limits, then 25, then 10; a refusal touches nothing, and bytes behind the image stay"""
     if not limits[0] <= n <= limits[1]:
-        print(f"{name} {n}: refused 17")
+        answer, image = "refused 17", b""
     elif room < len(sealed):
-        print(f"{name} {n}: refused 25")
+        answer, image = "refused 25", b""
     elif not held:
-        print(f"{name} {n}: refused 10")
+        answer, image = "refused 10", b""
     else:
-        print(f"{name} {n}: {sealed.hex()}")
-        print("opened")
+        answer, image = f"wrote {len(sealed)}", sealed
+    after = image + bytes([0xEE]) * (room - len(image))
+    print(f"{name} {n}: {answer}, room {after.hex()}" + (", opened" if image else ""))
 
 
-def message(n, room, mode):
+def message(n, room, mode, keys):
     text = (0xCAFEBABE).to_bytes(4, "little") + n.to_bytes(2, "little") + fill(n)
-    show("message", n, image("admin", 0, n, text), (2, 490), room, serves(mode, "admin"))
+    show("message", n, image("admin", 0, n, text), (2, 490), room, serves(mode, "admin", keys))
 
 
-def packet(n, room, mode, level):
+def packet(n, room, mode, level, keys):
     size = max(n - 5, 0).to_bytes(2, "little")
     bytes_ = fill(n)
     bytes_ = (bytes_[:3] + size + bytes_[5:])[:n]
-    show("packet", n, image(level, LEVELS[level], n, VALIDATION + bytes_), (5, 492), room, serves(mode, level))
+    show("packet", n, image(level, LEVELS[level], n, VALIDATION + bytes_), (5, 492), room, serves(mode, level, keys))
 
 
 for line in (Path(__file__).resolve().parents[2] / "crates/seal_vectors/stdin").read_text().splitlines():
-    kind, mode, level, n, room = line.split()
+    kind, mode, level, n, room, keys = line.split()
     if kind == "message":
-        message(int(n), int(room), mode)
+        message(int(n), int(room), mode, keys)
     else:
-        packet(int(n), int(room), mode, next(name for name, number in LEVELS.items() if number == int(level)))
+        packet(int(n), int(room), mode, next(name for name, number in LEVELS.items() if number == int(level)), keys)

@@ -1,6 +1,6 @@
-// Seals messages and control packets of several lengths, prints each image in base 16, and opens it again. A line of standard input is what is
-// sealed, the mode, the level's number, how many bytes, and how much room is lent. The stored output comes from another implementation of
-// AES: bench/seal/vectors.py.
+// Seals messages and control packets of several lengths, prints the answer and the whole room afterwards in base 16, and opens each image again. A line of
+// standard input is what is sealed, the mode, the level's number, how many bytes, how many bytes EE are lent as room, and the keys held, AMBS with - for one
+// that is absent. The stored output comes from another implementation of AES: bench/seal/vectors.py.
 use access::Level;
 use access::LevelRead;
 use access::Mode;
@@ -25,6 +25,7 @@ struct Case {
     level: Level,
     size: usize,
     room: usize,
+    keys: Keys,
 }
 
 fn front(s: &[u8], n: usize) -> &[u8] {
@@ -45,6 +46,32 @@ fn level_of(s: &[u8]) -> Level {
     }
 }
 
+// Whether the key with a letter is held.
+fn held(letters: &[u8], k: usize) -> bool {
+    wire::byte_at(letters, k) != b'-'
+}
+
+fn keys_of(letters: &[u8]) -> Keys {
+    Keys {
+        admin: Key {
+            held: held(letters, 0),
+            bytes: *b"\x10\x11\x12\x13\x14\x15\x16\x17\x18\x19\x1a\x1b\x1c\x1d\x1e\x1f",
+        },
+        member: Key {
+            held: held(letters, 1),
+            bytes: *b"\x30\x31\x32\x33\x34\x35\x36\x37\x38\x39\x3a\x3b\x3c\x3d\x3e\x3f",
+        },
+        basic: Key {
+            held: held(letters, 2),
+            bytes: *b"\x50\x51\x52\x53\x54\x55\x56\x57\x58\x59\x5a\x5b\x5c\x5d\x5e\x5f",
+        },
+        setup: Key {
+            held: held(letters, 3),
+            bytes: *b"\x70\x71\x72\x73\x74\x75\x76\x77\x78\x79\x7a\x7b\x7c\x7d\x7e\x7f",
+        },
+    }
+}
+
 fn case_of(line: &[u8]) -> Case
     ensures { λ c. ⌜ (c .size < 1000) × (c .room ≤ 512) ⌝ }
 {
@@ -56,6 +83,7 @@ fn case_of(line: &[u8]) -> Case
         level: level_of(reading::field(line, b' ', 2)),
         size: size as usize,
         room: room as usize,
+        keys: keys_of(reading::field(line, b' ', 5)),
     }
 }
 
@@ -82,35 +110,15 @@ fn filled(c: Case) -> [u8; 493]
     s
 }
 
-fn all_keys() -> Keys {
-    Keys {
-        admin: Key {
-            held: true,
-            bytes: *b"\x10\x11\x12\x13\x14\x15\x16\x17\x18\x19\x1a\x1b\x1c\x1d\x1e\x1f",
-        },
-        member: Key {
-            held: true,
-            bytes: *b"\x30\x31\x32\x33\x34\x35\x36\x37\x38\x39\x3a\x3b\x3c\x3d\x3e\x3f",
-        },
-        basic: Key {
-            held: true,
-            bytes: *b"\x50\x51\x52\x53\x54\x55\x56\x57\x58\x59\x5a\x5b\x5c\x5d\x5e\x5f",
-        },
-        setup: Key {
-            held: true,
-            bytes: *b"\x70\x71\x72\x73\x74\x75\x76\x77\x78\x79\x7a\x7b\x7c\x7d\x7e\x7f",
-        },
-    }
-}
-
 fn seal(c: Case, content: &[u8], out: &mut [u8]) -> Written {
     let n = content.len();
     let nonce = [(n % 256) as u8, (n / 256 % 256) as u8, 0xA5];
     let mode = c.mode;
     let level = c.level;
+    let keys = c.keys;
     if c.packet {
         return envelope::seal_characteristic(
-            all_keys(),
+            keys,
             mode,
             level,
             nonce,
@@ -120,7 +128,7 @@ fn seal(c: Case, content: &[u8], out: &mut [u8]) -> Written {
             out,
         );
     }
-    envelope::seal(all_keys(), mode, nonce, SESSION_NONCE, content, out)
+    envelope::seal(keys, mode, nonce, SESSION_NONCE, content, out)
 }
 
 // The blocks of an image deciphered, how many bytes: none where it is refused.
@@ -133,7 +141,8 @@ fn deciphered(c: Case, image: &[u8], work: &mut [u8]) -> usize {
     }
     let mode = c.mode;
     let level = c.level;
-    let key = all_keys().serving(mode, level);
+    let keys = c.keys;
+    let key = keys.serving(mode, level);
     let bytes = key.bytes;
     let Written::Wrote(len) = envelope::decipher(bytes, SESSION_NONCE, image, work) else {
         return 0;
@@ -158,15 +167,20 @@ fn opens(c: Case, image: &[u8], content: &[u8]) -> bool {
     check::same(envelope::message_in(plain), content)
 }
 
-// `NAME LENGTH: ` and the image, or the refusal.
-fn show(out: &mut [u8], name: &[u8], n: usize, image: &[u8], w: Written) -> usize {
+fn answer(out: &mut [u8], at: usize, w: Written) -> usize {
+    match w {
+        Written::Wrote(len) => text::named(out, at, b": wrote ", len as u64),
+        Written::Refused(number) => text::named(out, at, b": refused ", number as u64),
+    }
+}
+
+// `NAME LENGTH: ` and the answer, then all of the room.
+fn show(out: &mut [u8], name: &[u8], n: usize, room: &[u8], w: Written) -> usize {
     let a = text::put(out, 0, name);
     let b = text::named(out, a, b" ", n as u64);
-    let c = text::put(out, b, b": ");
-    match w {
-        Written::Wrote(len) => text::hex(out, c, front(image, len)),
-        Written::Refused(number) => text::named(out, c, b"refused ", number as u64),
-    }
+    let c = answer(out, b, w);
+    let d = text::put(out, c, b", room ");
+    text::hex(out, d, room)
 }
 
 // The image's length, 0 where there is none.
@@ -185,9 +199,15 @@ fn run(line: &[u8], image: &mut [u8], out: &mut [u8]) -> usize
     let content = front(&bytes, c.size);
     let room = c.room;
     let w = seal(c, content, &mut image[..room]);
-    let at = show(out, reading::field(line, b' ', 0), c.size, image, w);
+    let at = show(
+        out,
+        reading::field(line, b' ', 0),
+        c.size,
+        front(image, room),
+        w,
+    );
     if opens(c, front(image, length_of(w)), content) {
-        return text::put(out, at, b"\nopened\n");
+        return text::put(out, at, b", opened\n");
     }
     text::put(out, at, b"\n")
 }
@@ -196,10 +216,10 @@ fn main() {
     let mut input = [0u8; 2048];
     let n = io::read_full(STDIN_FILENO, &mut input);
     let cases = front(&input, n);
-    let mut image = [0u8; 512];
     let mut out = [0u8; 2048];
     let mut k: usize = 0;
     while k < reading::count(cases, b'\n') {
+        let mut image = [0xEEu8; 512];
         let len = run(reading::field(cases, b'\n', k), &mut image, &mut out);
         io::write_all(STDOUT_FILENO, front(&out, len));
         k += 1;
