@@ -4,5 +4,3 @@ pub mod Content
 pub mod Opener
 pub mod Characteristic
 pub mod Opening
-pub mod Accepts
-pub mod RoundTrip

@@ -24,13 +24,13 @@ use Rattle.envelope.specs.Blocks.{outside, wrongLength, notLeast, blocksIn}
 use Rattle.envelope.specs.Sealed.{messageSize, lateRules, messageIn}
 use Rattle.envelope.specs.Characteristic.{characteristicRules, packetIn}
 use Rattle.envelope.proofs.Unsealed.{same-self, same-bytes}
 use Rattle.bridge.specs.Opener.{adminKey, headRules, plainRules, blockRules, sessionRules, uartEntryRules, uartText, uartTextRules, uartOpenRules, acceptedMessage, answerOf, opened}
 use Rattle.bridge.specs.Characteristic.{accessFor, connectionRules, packetEntryRules, packetText, packetTextRules, packetOpenRules, acceptedCommand, characteristicAnswerOf, characteristicOpened}
 use Rattle.bridge.specs.Opening.{refusedAnswer, refusedCommand}
-use Rattle.bridge.specs.Accepts.{isAccepted, isCommand, AcceptsBlocks, AcceptsPlain, AcceptsSealed, AcceptsFrame, AcceptsPacket}
+use Rattle.bridge_laws.specs.Accepts.{isAccepted, isCommand, AcceptsBlocks, AcceptsPlain, AcceptsSealed, AcceptsFrame, AcceptsPacket}
 use Rattle.bridge.proofs.Commands.{packet-whole}
 use Rattle.bridge.specs.declared.Context.{Context}
 use Rattle.bridge.specs.declared.Link.{Link}
 
 or-holds : (a b : Bool) → (a || b) ≡ true → (a ≡ true) ⊎ (b ≡ true)
 or-holds true b e = inl refl

@@ -23,13 +23,13 @@ use Rattle.session.specs.declared.Key.{Key}
 use Rattle.envelope.specs.Blocks.{outside, sealerRules, blocksIn}
 use Rattle.envelope.specs.Characteristic.{characteristicText, characteristicRules, packetIn}
 use Rattle.envelope.proofs.Unsealed.{characteristic-level, characteristic-unsealed, characteristic-whole, late-text, packet-text}
 use Rattle.bridge.specs.Place.{placeFrom}
 use Rattle.bridge.specs.Characteristic.{levelKey, connectionRules, packetEntryRules, packetText, packetTextRules, packetOpenRules, acceptedCommand, characteristicAnswerOf, characteristicOpened}
-use Rattle.bridge.specs.RoundTrip.{SealablePacket, packetSealed, OpensAgain}
+use Rattle.bridge_laws.specs.RoundTrip.{SealablePacket, packetSealed, OpensAgain}
 use Rattle.bridge.specs.Opening.{refusedCommand}
 use Rattle.bridge.proofs.Contents.{opens-packet}
 use Rattle.bridge.specs.declared.Link.{Link}
 use Rattle.bridge.specs.declared.CommandAnswer.the-variants.{Accepted as CommandAccepted}
 
 -- an accepted packet breaks no rule
 none-broken : (n : ℕ) (p : List ℕ) → verdict Refused n (Accepted (commandAt p)) ≡ Accepted (commandAt p) → n ≡ 0

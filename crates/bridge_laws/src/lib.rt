@@ -1,0 +1,1 @@
+// What follows of the openers' contracts: accepted exactly when each condition holds, numbers that never come, sealed and opened again. There is no code here.
