@@ -63,12 +63,19 @@ fn nonce(v: &[u8]) -> [u8; 3] {
     [(reading::number(v) % 256) as u8, 0x7E, 0x5C]
 }
 
-// A message that a writer refuses leaves the line as it is, so that its answer is missing.
+// What a writer refuses is printed, and leaves the line as it is.
+fn refused(at: usize, n: u8) -> usize {
+    let mut out = [0u8; 64];
+    let end = text::named(&mut out, 0, b"writer refused ", n as u64);
+    opening::end_line(&mut out, end);
+    at
+}
+
 fn framed(line: &mut [u8], at: usize, wrapper: u8, payload: &[u8]) -> usize {
     let mut room = [0u8; 1100];
     match frame::write_frame(wrapper, payload, &mut room) {
         Written::Wrote(n) => text::put(line, at, wire::part_of(&room, Part { start: 0, len: n })),
-        Written::Refused(_) => at,
+        Written::Refused(n) => refused(at, n),
     }
 }
 
@@ -104,6 +111,6 @@ fn sealed(line: &mut [u8], at: usize, v: &[u8], message: &[u8]) -> usize {
             128,
             wire::part_of(&room, Part { start: 0, len: n }),
         ),
-        Written::Refused(_) => at,
+        Written::Refused(n) => refused(at, n),
     }
 }

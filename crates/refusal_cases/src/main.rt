@@ -141,7 +141,7 @@ fn cases(s: &[u8]) {
 }
 
 fn main() {
-    let mut input = io::large_buffer();
-    let n = io::read_full(STDIN_FILENO, &mut input);
-    cases(&input[..n]);
+    let mut input = [0u8; 131072];
+    let len = io::read_full(STDIN_FILENO, &mut input);
+    cases(wire::part_of(&input, Part { start: 0, len }));
 }
