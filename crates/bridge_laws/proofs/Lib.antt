@@ -1,3 +1,4 @@
 pub mod Accepts
 pub mod Never
 pub mod RoundTrip
+pub mod Assembled
