@@ -166,14 +166,14 @@ fn over_long(counter: u8) -> Taken
     ensures { λ t. ⌜ ((s : _) → specs.stepTo (t .progress) s (t .answer) ≡ specs.overLong s counter) ⌝ }
 {
     let answer = PartAnswer::Refused(27);
-    if counter == 255 {
+    if counter != 255 {
         return Taken {
-            progress: gathered(0, 0),
+            progress: discarding(),
             answer,
         };
     }
     Taken {
-        progress: discarding(),
+        progress: gathered(0, 0),
         answer,
     }
 }
