@@ -8,7 +8,7 @@ use Rattle.access.specs.declared.Level.{Level}
 use Rattle.multipart.specs.Cutting.{Cuts}
 use Rattle.multipart.specs.Delivery.{ready}
 use Rattle.multipart.specs.declared.Assembler.{Assembler}
-use Rattle.multipart.proofs.Delivery.{assembles}
+use Rattle.multipart.proofs.Delivery.{assembles, stands}
 use Rattle.bridge.specs.Characteristic.{characteristicOpened, OpensPacket}
 use Rattle.bridge.specs.declared.Link.{Link}
 use Rattle.bridge_laws.specs.RoundTrip.{SealablePacket, packetSealed}
@@ -18,14 +18,17 @@ use Rattle.bridge_laws.proofs.RoundTrip.{opens-again}
 module _ (ds : List (List ℕ)) (a : Assembler) (e : ready (a .progress) ≡ true) where
   pub opens-assembled : (packet : List ℕ) → Cuts packet ds → OpensAssembled packet ds a
   opens-assembled packet c =
-      let d = assembles packet ds a c e in
-      record { delivers = d; opens = λ k work left r o. subst (λ (l : List ℕ). OpensPacket k l work r left) (d .stands) o }
+      record {
+        delivers = assembles packet ds a c e;
+        opens = λ k work left r o. subst (λ (l : List ℕ). OpensPacket k l work r left) (stands packet ds a c e) o;
+      }
 
   pub opens-sealed : (k : Link) (level : Level) (pn packet : List ℕ) → SealablePacket k level pn packet → Cuts (packetSealed k level pn packet) ds
       → OpensSealed k level pn packet ds a
   opens-sealed k level pn packet s c =
-      let d = assembles (packetSealed k level pn packet) ds a c e in
+      let p = packetSealed k level pn packet in
       record {
-        delivers = d;
-        answer = λ work h. ap (λ (l : List ℕ). characteristicOpened k (length work) l .answer) (d .stands) ∙ opens-again k level pn packet s .answer work h;
+        delivers = assembles p ds a c e;
+        answer = λ work h.
+            ap (λ (l : List ℕ). characteristicOpened k (length work) l .answer) (stands p ds a c e) ∙ opens-again k level pn packet s .answer work h;
       }

@@ -1,11 +1,11 @@
 -- The cutter's laws: its pieces are the message, cut by the rules; each but the last is full; no cutting into pieces of that size has fewer. Assumes nothing.
-use mathlib.Core.Path.{_≡_, refl, ap, _∙_}
+use mathlib.Core.Path.{_≡_, refl, sym, ap, _∙_}
 use mathlib.Core.List.{List, [], _∷_, _++_, flatten, append-nil}
 use Prim.Native.Nat.{ℕ, zero, suc, _+_, _-_, _*_, _/_, _≤_, _<_}
 use native.Mathlib.Nat.{zero-mul, suc-mul, mul-le-mul-right, div-mul-le-self, lt-div-mul-add, div-lt-iff-lt-mul}
 use native.Mathlib.Omega.{arith}
 use lib.ListN.{length, getD, take, drop, length-append, length-drop, take-append-drop}
-use lib.Seq.{drop-drop, length-take-le}
+use lib.Seq.{drop-drop, length-take-le, take-at, drop-at}
 use lib.Dec.{eqb, ltb}
 use borrow.Author.Tests.{ltb-false}
 use Rattle.wire.specs.Rules.{firstBroken}
@@ -40,6 +40,31 @@ module _ (size : ℕ) where
   cutAfter-joined zero m = append-nil m
   cutAfter-joined (suc n) m = ap (λ (l : List ℕ). take size m ++ l) (cutAfter-joined n (drop size m)) ∙ take-append-drop size m
 
+  -- ---- the parts one behind the other
+  -- their bytes from a counter on: so many full ones and the last
+  abbrev pub remaining : ℕ → ℕ → List ℕ → List ℕ
+  remaining k n m = flatten (partsFrom k (cutAfter n size m))
+
+  parts-first : (k n : ℕ) (m : List ℕ) → partsFrom k (cutAfter (suc n) size m) ≡ (k ∷ take size m) ∷ partsFrom (k + 1) (cutAfter n size (drop size m))
+  unfolding partsFrom cutAfter
+  parts-first k zero m = refl
+  parts-first k (suc n) m = refl
+
+  pub first-of : (k n : ℕ) (m : List ℕ) → remaining k (suc n) m ≡ (k ∷ take size m) ++ remaining (k + 1) n (drop size m)
+  unfolding flatten
+  first-of k n m = ap flatten (parts-first k n m)
+
+  -- taken apart after every size + 1 bytes they are the parts
+  apart : (n k : ℕ) (m : List ℕ) → n * size ≤ length m → cutAfter n (size + 1) (remaining k n m) ≡ partsFrom k (cutAfter n size m)
+  unfolding cutAfter partsFrom flatten
+  apart zero k m h = ap (λ (l : List ℕ). l ∷ []) (append-nil (255 ∷ m))
+  apart (suc n) k m h =
+      let rest : List ℕ = remaining (k + 1) n (drop size m) in
+      let l : length (k ∷ take size m) ≡ size + 1 = omega (arith, suc-mul n size, length-take-le size m (omega (arith, suc-mul n size))) in
+      ap (cutAfter (suc n) (size + 1)) (first-of k n m)
+      ∙ rw (take-at (k ∷ take size m) rest (size + 1) l, drop-at (k ∷ take size m) rest (size + 1) l)
+      (ap (λ (ps : List (List ℕ)). (k ∷ take size m) ∷ ps) (apart n (k + 1) (drop size m) (omega (arith, suc-mul n size, length-drop size m))) ∙ sym (parts-first k n m))
+
   -- ---- each piece
   -- a full one: the next `size` bytes from its place on
   pub piece-at : (n k : ℕ) (m : List ℕ) → k < n → getD (cutAfter n size m) k [] ≡ take size (drop (k * size) m)
@@ -69,6 +94,10 @@ module _ (size : ℕ) where
     pub image-length : length (cutImage size m) ≡ length m + length (pieces size m)
     unfolding cutImage
     image-length = parts-length 0 (pieces size m) ∙ ap (λ (l : List ℕ). length l + length (pieces size m)) pieces-joined
+
+    pub image-apart : cutAfter ((length m - 1) / size) (size + 1) (cutImage size m) ≡ parts (pieces size m)
+    unfolding cutImage
+    image-apart = apart ((length m - 1) / size) 0 m (omega (arith, div-mul-le-self (length m - 1) size))
 
     -- ---- cut by the rules
     -- within the limits the pieces are a cutting

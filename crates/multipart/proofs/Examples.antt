@@ -3,7 +3,7 @@ use mathlib.Core.Path.{_≡_, refl}
 use mathlib.Core.List.{List, [], _∷_, flatten}
 use Prim.Native.Nat.{ℕ}
 use Rattle.multipart.specs.Cutting.{partsFrom, parts, cutAfter, cutImage}
-use Rattle.multipart.specs.Assembler.{freshAssembler, outside, taken, inTurn, outOfTurn, overLong, kept, counted, stepOf}
+use Rattle.multipart.specs.Assembler.{freshAssembler, outside, limited, inTurn, outOfTurn, overLong, kept, counted, stepOf}
 use Rattle.multipart.specs.Delivery.{answers}
 use Rattle.multipart.specs.declared.PartAnswer.{PartAnswer}
 use Rattle.multipart.specs.declared.PartAnswer.the-variants.{More, Message, Refused}
@@ -34,20 +34,20 @@ given ps = answers ps freshAssembler
 
 -- the part before the last is lost: 1 3
 lost-before-last : given ((0 ∷ 1 ∷ []) ∷ (255 ∷ 3 ∷ []) ∷ []) ≡ More ∷ Message 2 ∷ []
-unfolding given answers stepOf counted inTurn taken outside outOfTurn overLong kept
+unfolding given answers stepOf counted inTurn limited outside outOfTurn overLong kept
 lost-before-last = refl
 
 -- the first of two is lost: 2
 lost-first : given ((255 ∷ 2 ∷ []) ∷ []) ≡ Message 1 ∷ []
-unfolding given answers stepOf counted inTurn taken outside outOfTurn overLong kept
+unfolding given answers stepOf counted inTurn limited outside outOfTurn overLong kept
 lost-first = refl
 
 -- the last is doubled: 1 2, then 2
 doubled-last : given ((0 ∷ 1 ∷ []) ∷ (255 ∷ 2 ∷ []) ∷ (255 ∷ 2 ∷ []) ∷ []) ≡ More ∷ Message 2 ∷ Message 1 ∷ []
-unfolding given answers stepOf counted inTurn taken outside outOfTurn overLong kept
+unfolding given answers stepOf counted inTurn limited outside outOfTurn overLong kept
 doubled-last = refl
 
 -- ---- what is noticed: one in the middle is lost, and the 255 ends the discarding
 lost-middle : given ((0 ∷ 1 ∷ []) ∷ (2 ∷ 3 ∷ []) ∷ (255 ∷ 4 ∷ []) ∷ (255 ∷ []) ∷ []) ≡ More ∷ Refused 26 ∷ Refused 26 ∷ Message 0 ∷ []
-unfolding given answers stepOf counted inTurn taken outside outOfTurn overLong kept
+unfolding given answers stepOf counted inTurn limited outside outOfTurn overLong kept
 lost-middle = refl

@@ -13,20 +13,20 @@ use Rattle.wire.specs.Rules.{judge}
 use Rattle.wire.specs.Writing.{Stores, noRoom, placed}
 use Rattle.wire.specs.declared.Written.{Written}
 use Rattle.wire.proofs.Choice.{pick-all, and-holds, or-fails}
-use Rattle.multipart.specs.Assembler.{fresh, holding, outside, taken, stepTo, inTurn, outOfTurn, overLong, kept, counted, stepOf, partRules, given, answerNumber, TakesPart}
+use Rattle.multipart.specs.Assembler.{fresh, holding, outside, limited, stepTo, inTurn, outOfTurn, overLong, kept, counted, stepOf, partRules, given, answerNumber, TakesPart}
 use Rattle.multipart.specs.declared.Assembler.{Assembler}
 use Rattle.multipart.specs.declared.PartAnswer.{PartAnswer}
 use Rattle.multipart.specs.declared.Step.{Step}
 use Rattle.multipart.specs.declared.Progress.{Progress}
 
 -- ---- a record outside the limits, and one within
-pub taken-outside : (p q : Progress) → outside p ≡ true → q ≡ fresh → (q ≡ taken p) × (q .parts ≤ 255) × (q .bytes ≤ 500)
-unfolding taken
-taken-outside p q e f = rw (f, e) (refl, omega arith, omega arith)
+pub limited-outside : (p q : Progress) → outside p ≡ true → q ≡ fresh → (q ≡ limited p) × (q .parts ≤ 255) × (q .bytes ≤ 500)
+unfolding limited
+limited-outside p q e f = rw (f, e) (refl, omega arith, omega arith)
 
-pub taken-within : (p : Progress) → outside p ≡ false → (p ≡ taken p) × (p .parts ≤ 255) × (p .bytes ≤ 500)
-unfolding taken outside
-taken-within p e =
+pub limited-within : (p : Progress) → outside p ≡ false → (p ≡ limited p) × (p .parts ≤ 255) × (p .bytes ≤ 500)
+unfolding limited outside
+limited-within p e =
     let a = or-fails (ltb 255 (p .parts) || ltb 500 (p .bytes)) (eqb (p .parts) 0 && ltb 0 (p .bytes)) e in
     let b = or-fails (ltb 255 (p .parts)) (ltb 500 (p .bytes)) (a .0) in
     (rw e, ltb-false 255 (p .parts) (b .0), ltb-false 500 (p .bytes) (b .1))
@@ -50,10 +50,10 @@ not-over gathered n g h = le-ltb 500 (gathered + n) (omega arith)
 -- ---- the answer's number
 -- the refusals come in order
 pub step-number : (a : Assembler) (part : List ℕ)
-    → answerNumber (stepOf a part .answer) ≡ judge refused (partRules (taken (a .progress)) part) (accepted (given (taken (a .progress)) part))
+    → answerNumber (stepOf a part .answer) ≡ judge refused (partRules (limited (a .progress)) part) (accepted (given (limited (a .progress)) part))
 unfolding stepOf counted outOfTurn overLong kept
 step-number a part =
-    let p = taken (a .progress) in
+    let p = limited (a .progress) in
     let counter = getD part 0 0 in
     let P : Step → Type 0 = λ t. answerNumber (t .answer) ≡ judge refused (partRules p part) (accepted (given p part)) in
     pick-all P (eqb (length part) 0)
@@ -71,7 +71,7 @@ takes-part a part p s answer e =
     record { number = ap (λ (t : Step). answerNumber (t .answer)) e ∙ step-number a part; answers = ap (λ (t : Step). t .answer) e; leaves = ap (λ (t : Step). t .assembler) e }
 
 -- a part with a counter
-pub takes-counted : (a : Assembler) (part : List ℕ) (p q : Progress) (s : List ℕ) (answer : PartAnswer) → (length part ≡ 0 → ⊥) → q ≡ taken (a .progress)
+pub takes-counted : (a : Assembler) (part : List ℕ) (p q : Progress) (s : List ℕ) (answer : PartAnswer) → (length part ≡ 0 → ⊥) → q ≡ limited (a .progress)
     → stepTo p s answer ≡ counted q (a .store) (getD part 0 0) (take (length part - 1) (drop 1 part)) → TakesPart a part (holding p s) answer
 unfolding stepOf
 takes-counted a part p q s answer h f e =

@@ -16,7 +16,7 @@ use Rattle.wire.specs.declared.Written.the-variants.{Wrote, Refused}
 use Rattle.wire.proofs.Lists.{sets-then}
 use Rattle.wire.proofs.Writing.{sets-placed, stores-refused, stores-past, stores-short, stores-made}
 use Rattle.multipart.specs.Cutting.{partsFrom, cutAfter, pieces, cutImage, cutterRules}
-use Rattle.multipart.proofs.Cutting.{cutAfter-length, image-length}
+use Rattle.multipart.proofs.Cutting.{cutAfter-length, remaining, first-of, image-length}
 
 -- one part: its counter is stored, and its bytes behind
 pub part-stored : (counter : ℕ) (bytes o : List ℕ) (at : ℕ) {answer : Written} {o′ : List ℕ} → at + suc (length bytes) ≤ length o
@@ -28,15 +28,6 @@ part-stored counter bytes o at h w =
     ∙ ap (λ (i : ℕ). sets (set o at counter) i bytes) (add-one at)
 
 -- ---- the loop that puts them
--- the bytes of the parts from a counter on: so many full ones and the last
-abbrev pub remaining : ℕ → ℕ → ℕ → List ℕ → List ℕ
-remaining size k n m = flatten (partsFrom k (cutAfter n size m))
-
-first-of : (size k n : ℕ) (m : List ℕ) → remaining size k (suc n) m ≡ (k ∷ take size m) ++ remaining size (k + 1) n (drop size m)
-unfolding partsFrom cutAfter flatten
-first-of size k zero m = refl
-first-of size k (suc n) m = refl
-
 -- one full part less
 module _ (size : ℕ) {k full : ℕ} (h : k < full) where
   less : full - k ≡ suc (full - (k + 1))

@@ -40,8 +40,8 @@ unfoldable pub outside : Progress → Bool
 outside p = ltb 255 (p .parts) || ltb 500 (p .bytes) || (eqb (p .parts) 0 && ltb 0 (p .bytes))
 
 -- such a record is taken as fresh
-unfoldable pub taken : Progress → Progress
-taken p = pick (outside p) fresh p
+unfoldable pub limited : Progress → Progress
+limited p = pick (outside p) fresh p
 
 -- ---- one part: how the record stands after it, and the answer
 abbrev pub stepTo : Progress → List ℕ → PartAnswer → Step
@@ -85,7 +85,7 @@ unfoldable pub stepOf : Assembler → List ℕ → Step
 stepOf a part =
     pick (eqb (length part) 0)
     (stepTo (a .progress) (a .store) (Refused 7))
-    (counted (taken (a .progress)) (a .store) (getD part 0 0) (drop 1 part))
+    (counted (limited (a .progress)) (a .store) (getD part 0 0) (drop 1 part))
 
 -- ---- the numbers
 -- the refusals in order, of a record taken as it is or as fresh
@@ -107,7 +107,7 @@ answerNumber (Refused n) = refused n
 
 -- what a function promises that takes one part
 pub record TakesPart (a : Assembler) (part : List ℕ) (a′ : Assembler) (answer : PartAnswer) : Type 0 where
-  pub number : answerNumber answer ≡ judge refused (partRules (taken (a .progress)) part) (accepted (given (taken (a .progress)) part))
+  pub number : answerNumber answer ≡ judge refused (partRules (limited (a .progress)) part) (accepted (given (limited (a .progress)) part))
   -- the answer by the cases of the enum
   pub answers : answer ≡ stepOf a part .answer
   pub leaves : a′ ≡ stepOf a part .assembler

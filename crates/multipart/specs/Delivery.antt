@@ -1,13 +1,15 @@
 -- What is proved of many parts: any cutting by the rules comes through. The statements; proofs/Delivery.antt proves them.
-use Prim.Native.Nat.{ℕ, _-_}
+use Prim.Native.Nat.{ℕ, _+_, _-_, _/_}
 use mathlib.Core.Path.{_≡_}
-use mathlib.Core.Bool.{Bool, true, not, _&&_, _||_}
-use mathlib.Core.List.{List, [], _∷_, _++_}
-use lib.ListN.{length, replicate}
-use lib.Dec.{eqb}
+use mathlib.Core.Bool.{Bool, true, false, not, _&&_, _||_}
+use mathlib.Core.List.{List, [], _∷_, _++_, flatten, map}
+use lib.ListN.{length, take, replicate}
+use lib.Dec.{eqb, leb}
 use Rattle.wire.specs.Choice.{pick}
-use Rattle.wire.specs.Writing.{placed}
-use Rattle.multipart.specs.Cutting.{parts, Cuts}
+use Rattle.wire.specs.Rules.{firstBroken}
+use Rattle.wire.specs.Writing.{Stores, placed}
+use Rattle.wire.specs.declared.Written.{Written}
+use Rattle.multipart.specs.Cutting.{parts, Cuts, cutAfter, cutImage, cutterRules}
 use Rattle.multipart.specs.Assembler.{fresh, holding, outside, stepOf, messageOf}
 use Rattle.multipart.specs.declared.Progress.{Progress}
 use Rattle.multipart.specs.declared.Assembler.{Assembler}
@@ -23,15 +25,32 @@ unfoldable pub after : List (List ℕ) → Assembler → Assembler
 after [] a = a
 after (p ∷ ps) a = after ps (stepOf a p .assembler)
 
+-- the message that an answer hands out, as it stands in the store at that moment
+abbrev pub handed : PartAnswer → List ℕ → List (List ℕ)
+handed More s = []
+handed (Message n) s = messageOf s n ∷ []
+handed (Refused n) s = []
+
+unfoldable pub handedOut : List (List ℕ) → Assembler → List (List ℕ)
+handedOut [] a = []
+handedOut (p ∷ ps) a = handed (stepOf a p .answer) (stepOf a p .assembler .store) ++ handedOut ps (stepOf a p .assembler)
+
+-- what parts give: their answers, what is handed out, and the assembler after them
+pub record Gives (ps : List (List ℕ)) (a : Assembler) (given : List PartAnswer) (out : List (List ℕ)) (a′ : Assembler) : Type 0 where
+  pub answered : answers ps a ≡ given
+  pub hands : handedOut ps a ≡ out
+  pub leaves : after ps a ≡ a′
+
+-- ---- one message
 -- no part is gathered and nothing is being discarded, or the counts lie outside the limits
 unfoldable pub ready : Progress → Bool
 ready p = outside p || (eqb (p .parts) 0 && not (p .discarding))
 
--- parts come through as a message: with these answers before the last, the message at the front of the store, its other bytes as they were, and a fresh assembler
-pub record Delivers (early : List PartAnswer) (ps : List (List ℕ)) (message : List ℕ) (a : Assembler) : Type 0 where
-  pub answered : answers ps a ≡ early ++ (Message (length message) ∷ [])
-  pub leaves : after ps a ≡ holding fresh (placed 0 message (a .store))
-  pub stands : messageOf (after ps a .store) (length message) ≡ message
+-- parts come through as a message: these answers and then the message's length; the message and nothing else is handed out; it stands at the front of the
+-- store, whose other bytes are as they were, and nothing is gathered or being discarded
+abbrev pub Delivers : List PartAnswer → List (List ℕ) → List ℕ → Assembler → Type 0
+Delivers early ps message a =
+    Gives ps a (early ++ (Message (length message) ∷ [])) (message ∷ []) (holding fresh (placed 0 message (a .store)))
 
 -- any cutting by the rules, in an assembler that is ready: 'more' before the last
 abbrev pub Assembles : Type 0
@@ -39,12 +58,41 @@ Assembles =
     (message : List ℕ) (ds : List (List ℕ)) (a : Assembler) → Cuts message ds → ready (a .progress) ≡ true
     → Delivers (replicate (length ds - 1) More) (parts ds) message a
 
--- behind a 255 the assembler is fresh, whatever it was: any cutting comes through
-abbrev pub ReadyAgain : Type 0
-ReadyAgain = (a : Assembler) (bytes : List ℕ) → stepOf a (255 ∷ bytes) .assembler .progress ≡ fresh
+-- what the cutter wrote, taken apart after every size + 1 bytes
+abbrev pub CutAssembles : Type 0
+CutAssembles =
+    (size : ℕ) (message room left : List ℕ) (answer : Written) (a : Assembler) → firstBroken (cutterRules size message room) ≡ 0
+    → Stores (cutterRules size message room) 0 (cutImage size message) room answer left → ready (a .progress) ≡ true
+    → Delivers (replicate ((length message - 1) / size) More) (cutAfter ((length message - 1) / size) (size + 1) (take (length (cutImage size message)) left)) message a
 
--- two parts or more come through in any condition, with 26 at the first where it cut a message off or ended a discarding
+-- ---- from any record whatsoever
+-- after a 255 nothing is gathered and nothing is being discarded: any cutting behind it comes through
+pub record BehindLast (a : Assembler) (bytes : List ℕ) : Type 0 where
+  pub fresh-again : stepOf a (255 ∷ bytes) .assembler .progress ≡ fresh
+  pub next :
+      (message : List ℕ) (ds : List (List ℕ)) → Cuts message ds
+      → Delivers (replicate (length ds - 1) More) (parts ds) message (stepOf a (255 ∷ bytes) .assembler)
+
+-- two parts or more come through, with 26 at the first where it cut a message off or ended a discarding; one part, a 255, would end that message or be refused
 abbrev pub Recovers : Type 0
 Recovers =
     (message first second : List ℕ) (ds : List (List ℕ)) (a : Assembler) → Cuts message (first ∷ second ∷ ds)
     → Delivers (pick (ready (a .progress)) More (Refused 26) ∷ replicate (length ds) More) (parts (first ∷ second ∷ ds)) message a
+
+-- while discarding, every counter gets 26, and only a 255 or a kept 0 ends it
+abbrev pub Discards : Type 0
+Discards =
+    (a : Assembler) (counter : ℕ) (bytes : List ℕ) → outside (a .progress) ≡ false → a .progress .discarding ≡ true
+    → (stepOf a (counter ∷ bytes) .answer ≡ Refused 26)
+    × (stepOf a (counter ∷ bytes) .assembler .progress .discarding ≡ not (eqb counter 255 || (eqb counter 0 && leb (length bytes) 500)))
+
+-- ---- many messages
+abbrev pub AllCut : List (List (List ℕ)) → Type 0
+AllCut [] = Unit {0}
+AllCut (ds ∷ dss) = Cuts (flatten ds) ds × AllCut dss
+
+-- one behind the other, each cut in any way: they are handed out in order, and nothing else
+abbrev pub AssemblesAll : Type 0
+AssemblesAll =
+    (dss : List (List (List ℕ))) (a : Assembler) → AllCut dss → ready (a .progress) ≡ true
+    → handedOut (flatten (map parts dss)) a ≡ map flatten dss

@@ -96,8 +96,8 @@ impl Progress {
     }
 
     // A record whose counts lie outside the limits is taken as fresh.
-    fn taken(self) -> Progress
-        ensures { λ p. ⌜ (p ≡ specs.taken self) × (p .parts ≤ 255) × (p .bytes ≤ 500) ⌝ }
+    fn limited(self) -> Progress
+        ensures { λ p. ⌜ (p ≡ specs.limited self) × (p .parts ≤ 255) × (p .bytes ≤ 500) ⌝ }
     {
         if self.outside() {
             return gathered(0, 0);
@@ -221,7 +221,7 @@ pub fn take_part(was: Progress, store: &mut [u8; 500], part: &[u8]) -> Taken
             answer: PartAnswer::Refused(7),
         };
     }
-    counted(was.taken(), store, part[0], &part[1..])
+    counted(was.limited(), store, part[0], &part[1..])
 }
 
 impl Assembler {

@@ -13,7 +13,7 @@ returns c = takes-part _ _ _ _ _ (simp (eq-eqb _ _ (c .if1 .taken)))
 returns-2 : tie.Need-returns-2
 returns-2 c =
     let b = c .before .before .before .before in
-    takes-counted _ _ _ _ _ _ (b .before .if1 .left) (b .taken .ensures .0) (c .counted .ensures)
+    takes-counted _ _ _ _ _ _ (b .before .if1 .left) (b .limited .ensures .0) (c .counted .ensures)
 
 pub take-part-spec : {M : Type 1} → statement M
 take-part-spec =

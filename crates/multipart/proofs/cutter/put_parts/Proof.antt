@@ -6,7 +6,8 @@ use native.Mathlib.Omega.{arith}
 use lib.ListN.{length, drop, length-take, length-drop}
 use lib.Seq.{sets}
 use Rattle.multipart.specs.Cutting.{parts, cutAfter}
-use Rattle.multipart.proofs.Putting.{remaining, bytes-less, part-put, last-put}
+use Rattle.multipart.proofs.Cutting.{remaining}
+use Rattle.multipart.proofs.Putting.{bytes-less, part-put, last-put}
 use Rattle.multipart.proofs.cutter.put_parts.Statement.{statement}
 use Rattle.multipart.proofs.cutter.put_parts.Tie as tie
 
