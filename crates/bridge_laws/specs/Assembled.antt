@@ -1,6 +1,7 @@
 -- A characteristic packet that comes in parts is first assembled and then opened. The statement; proofs/Assembled.antt proves it.
 use Prim.Native.Nat.{ℕ, _+_, _*_, _-_, _≤_}
 use mathlib.Core.Path.{_≡_}
+use mathlib.Core.Bool.{true}
 use mathlib.Core.List.{List}
 use lib.ListN.{length, replicate}
 use Rattle.access.specs.declared.Level.{Level}
@@ -16,8 +17,7 @@ use Rattle.bridge.specs.Characteristic.{characteristicOpened, OpensPacket}
 use Rattle.bridge.specs.declared.Link.{Link}
 use Rattle.bridge.specs.declared.OpenedCommand.{OpenedCommand}
 use Rattle.bridge.specs.declared.CommandAnswer.the-variants.{Accepted as CommandAccepted}
-use Rattle.bridge_laws.specs.RoundTrip.{SealablePacket, packetSealed}
-use mathlib.Core.Bool.{true}
+use Rattle.bridge_laws.specs.RoundTrip.{packetSealed}
 
 -- the message of that length in the store, after the parts
 abbrev pub assembled : List (List ℕ) → Assembler → ℕ → List ℕ

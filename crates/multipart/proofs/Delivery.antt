@@ -4,8 +4,8 @@ use mathlib.Core.Bool.{Bool, true, false, not, _||_, _&&_}
 use mathlib.Core.List.{List, [], _∷_, _++_, flatten, map, append-assoc, append-nil}
 use Prim.Native.Nat.{ℕ, suc, _+_, _-_, _/_, _≤_}
 use native.Mathlib.Omega.{arith}
-use lib.ListN.{length, take, drop, replicate, length-append}
-use lib.Seq.{take-append-seam, drop-append-add, drop-drop, take-at}
+use lib.ListN.{length, drop, replicate, length-append}
+use lib.Seq.{take-append-seam, drop-append-add, drop-drop}
 use lib.Dec.{eqb, leb, ltb}
 use borrow.Author.Tests.{le-ltb, le-leb, eq-eqb, ne-eqb, eqb-true, ltb-false, not-true}
 use Rattle.wire.specs.Choice.{pick}
@@ -15,7 +15,7 @@ use Rattle.wire.proofs.Lists.{part-in}
 use Rattle.multipart.specs.Cutting.{partsFrom, parts, Cuts, cutAfter, pieces, cutImage}
 use Rattle.multipart.proofs.Cutting.{pieces-length, image-apart, cutter-cuts}
 use Rattle.multipart.specs.Assembler.{gathered, fresh, holding, outside, limited, stepTo, inTurn, outOfTurn, overLong, kept, counted, stepOf, messageOf}
-use Rattle.multipart.specs.Delivery.{answers, after, handed, handedOut, ready, Gives, Delivers, Assembles, CutAssembles, BehindLast, Recovers, Discards, AllCut, AssemblesAll}
+use Rattle.multipart.specs.Delivery.{answers, after, handed, handedOut, ready, Gives, Delivers, Assembles, CutAssembles, BehindLast, Recovers, Discards, AssemblesAll}
 use Rattle.multipart.specs.declared.Progress.{Progress}
 use Rattle.multipart.specs.declared.Assembler.{Assembler}
 use Rattle.multipart.specs.declared.PartAnswer.{PartAnswer}

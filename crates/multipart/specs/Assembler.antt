@@ -24,7 +24,7 @@ gathered parts bytes = record { parts = parts; bytes = bytes; discarding = false
 abbrev pub fresh : Progress
 fresh = gathered 0 0
 
--- nothing is gathered
+-- nothing is gathered, and parts are discarded
 abbrev pub discarding : Progress
 discarding = record { parts = 0; bytes = 0; discarding = true }
 
@@ -47,7 +47,7 @@ limited p = pick (outside p) fresh p
 abbrev pub stepTo : Progress → List ℕ → PartAnswer → Step
 stepTo p s answer = record { assembler = holding p s; answer = answer }
 
--- a 255, or the next counter; while discarding every counter is out of turn
+-- a 255, or the next counter, behind 254 a 255 alone; while discarding every counter is out of turn
 unfoldable pub inTurn : Progress → ℕ → Bool
 inTurn p counter = not (p .discarding) && (eqb counter 255 || eqb counter (p .parts))
 

@@ -45,8 +45,8 @@ fn put_parts(message: &[u8], size: usize, full: usize, out: &mut [u8])
     put_part(255, &message[from..], from + full, out);
 }
 
-// A message as parts with `size` data bytes each, one behind the other at the front of `out`: 27 for a message above 500 bytes, 17 where `size` is 0
-// or more than 256 parts would be needed, then 25.
+// A message as parts, one behind the other at the front of `out`: `size` data bytes in each but the last, and a counter byte before them. 27 for a message
+// above 500 bytes, 17 where `size` is 0 or more than 256 parts would be needed, then 25; a refusal writes nothing.
 pub fn cut(message: &[u8], size: usize, out: &mut [u8]) -> Written
     ensures { λ r. ⌜ Stores (cutterRules size (now (message .entry)) (now (out .entry))) 0
         (cutImage size (now (message .entry))) (now (out .entry)) r (now (out .exit)) ⌝ }

@@ -17,7 +17,7 @@ pub struct Progress {
     pub parts: usize,
     // How many bytes are gathered, 0 to 500.
     pub bytes: usize,
-    // Parts are refused until a 255 or a kept 0.
+    // Each part gets 26 until a 255, refused too, or a kept 0.
     pub discarding: bool,
 }
 
@@ -46,7 +46,7 @@ pub struct Taken {
     pub answer: PartAnswer,
 }
 
-// The progress of an assembler that has gathered this much.
+// So many parts and bytes gathered.
 fn gathered(parts: usize, bytes: usize) -> Progress
     ensures { λ p. ⌜ p ≡ specs.gathered parts bytes ⌝ }
 {
@@ -57,7 +57,7 @@ fn gathered(parts: usize, bytes: usize) -> Progress
     }
 }
 
-// The progress after a part that ends nothing: from now on parts are discarded.
+// Nothing gathered, and parts are discarded.
 fn discarding() -> Progress
     ensures { λ p. ⌜ p ≡ specs.discarding ⌝ }
 {
@@ -241,7 +241,7 @@ impl Assembler {
     }
 }
 
-// The message that was just given, in the store lent here; empty where no message is that long.
+// The message of this length at the front of the store; empty where no message is that long.
 pub fn message(store: &[u8; 500], len: usize) -> &[u8]
     ensures { λ r. ⌜ now r ≡ specs.messageOf (now (store .entry)) len ⌝ }
 {

@@ -1,6 +1,5 @@
 -- `is_first` meets its contract. Assumes nothing.
 use borrow.Author.Tests.{eq-eqb, ne-eqb}
-use borrow.Author.Needs.{needs}
 use Rattle.multipart.proofs.is_first.Statement.{statement}
 use Rattle.multipart.proofs.is_first.Tie as tie
 

@@ -1,6 +1,5 @@
 -- `Progress::outside` meets its contract. Assumes nothing.
 use borrow.Author.Tests.{lt-ltb, le-ltb, eq-eqb, ne-eqb}
-use borrow.Author.Needs.{needs}
 use Rattle.multipart.specs.Assembler.{outside}
 use Rattle.multipart.proofs.Progress.outside.Statement.{statement}
 use Rattle.multipart.proofs.Progress.outside.Tie as tie
