@@ -66,11 +66,13 @@ counted-part a k bytes = rw (ne-eqb (length (k ∷ bytes)) 0 (λ z. omega arith)
 
 -- in turn, behind what stands at the front of the store
 module _ (k : ℕ) (front bytes s : List ℕ) (p : Progress) (e : limited p ≡ gathered k (length front)) (fits : length (front ++ bytes) ≤ 500) where
-  next-kept : k ≤ 254 → stepOf (holding p (placed 0 front s)) (k ∷ bytes) ≡ stepTo (gathered (k + 1) (length (front ++ bytes))) (placed 0 (front ++ bytes) s) More
+  next-kept : k ≤ 254
+      → stepOf (holding p (placed 0 front s)) (k ∷ bytes) ≡ stepTo (gathered (k + 1) (length (front ++ bytes))) (placed 0 (front ++ bytes) s) More
   unfolding counted inTurn kept
   next-kept h =
       counted-part (holding p (placed 0 front s)) k bytes
-      ∙ rw (e, ne-eqb k 255 (λ z. omega arith), eq-eqb k k refl, placed-more front bytes s, sym (length-append front bytes), le-ltb 500 (length (front ++ bytes)) fits)
+      ∙ rw (e, ne-eqb k 255 (λ z. omega arith), eq-eqb k k refl)
+      (rw (placed-more front bytes s, sym (length-append front bytes), le-ltb 500 (length (front ++ bytes)) fits))
 
   last-kept : stepOf (holding p (placed 0 front s)) (255 ∷ bytes) ≡ stepTo fresh (placed 0 (front ++ bytes) s) (Message (length (front ++ bytes)))
   unfolding counted inTurn kept
@@ -116,7 +118,7 @@ module _ (message s : List ℕ) (fits : length message ≤ 500) where
       let m = append-assoc front d (flatten (d′ ∷ ds)) ∙ q in
       let fit : length (front ++ d) ≤ 500 = omega (arith, ap length m, length-append (front ++ d) (flatten (d′ ∷ ds))) in
       gives-more _ (next-kept k front d s p e fit (omega arith))
-      (gives-from ds d′ (k + 1) (front ++ d) (gathered (k + 1) (length (front ++ d))) (gathered-within k (length (front ++ d)) (omega arith) fit) (omega arith) m)
+      (gives-from ds d′ (k + 1) (front ++ d) _ (gathered-within k (length (front ++ d)) (omega arith) fit) (omega arith) m)
 
 -- ---- one message
 pub assembles : Assembles
@@ -167,7 +169,7 @@ recovers message first second ds a c = go (ready (a .progress)) refl
     go false e =
         let fit : length first ≤ 500 = omega (arith, c .fits, ap length (c .joined), length-append first (flatten (second ∷ ds))) in
         gives-more _ (first-kept first (a .store) (a .progress) e fit)
-        (gives-from message (a .store) (c .fits) ds second 1 first (gathered 1 (length first)) (gathered-within 0 (length first) (omega arith) fit) (omega (arith, c .most)) (c .joined))
+        (gives-from message (a .store) (c .fits) ds second 1 first _ (gathered-within 0 (length first) (omega arith) fit) (omega (arith, c .most)) (c .joined))
 
 pub discards : Discards
 unfolding limited counted inTurn outOfTurn
@@ -176,7 +178,8 @@ discards a counter bytes o d =
     (t .answer ≡ Refused 26) × (t .assembler .progress .discarding ≡ not (eqb counter 255 || (eqb counter 0 && leb (length bytes) 500))) in
     subst P (sym (counted-part a counter bytes))
     (rw (o, d)
-    (pick-all P (eqb counter 255) (λ e. (refl, rw e)) (λ e. pick-all P (eqb counter 0 && leb (length bytes) 500) (λ f. (refl, rw (e, f))) (λ f. (refl, rw (e, f))))))
+    (pick-all P (eqb counter 255) (λ e. (refl, rw e))
+    (λ e. pick-all P (eqb counter 0 && leb (length bytes) 500) (λ f. (refl, rw (e, f))) (λ f. (refl, rw (e, f))))))
 
 -- ---- many messages
 handed-append : (ps qs : List (List ℕ)) (a : Assembler) → handedOut (ps ++ qs) a ≡ handedOut ps a ++ handedOut qs (after ps a)

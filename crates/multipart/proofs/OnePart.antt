@@ -68,7 +68,11 @@ step-number a part =
 pub takes-part : (a : Assembler) (part : List ℕ) (p : Progress) (s : List ℕ) (answer : PartAnswer) → stepTo p s answer ≡ stepOf a part
     → TakesPart a part (holding p s) answer
 takes-part a part p s answer e =
-    record { number = ap (λ (t : Step). answerNumber (t .answer)) e ∙ step-number a part; answers = ap (λ (t : Step). t .answer) e; leaves = ap (λ (t : Step). t .assembler) e }
+    record {
+      number = ap (λ (t : Step). answerNumber (t .answer)) e ∙ step-number a part;
+      answers = ap (λ (t : Step). t .answer) e;
+      leaves = ap (λ (t : Step). t .assembler) e;
+    }
 
 -- a part with a counter
 pub takes-counted : (a : Assembler) (part : List ℕ) (p q : Progress) (s : List ℕ) (answer : PartAnswer) → (length part ≡ 0 → ⊥) → q ≡ limited (a .progress)

@@ -63,7 +63,8 @@ abbrev pub CutAssembles : Type 0
 CutAssembles =
     (size : ℕ) (message room left : List ℕ) (answer : Written) (a : Assembler) → firstBroken (cutterRules size message room) ≡ 0
     → Stores (cutterRules size message room) 0 (cutImage size message) room answer left → ready (a .progress) ≡ true
-    → Delivers (replicate ((length message - 1) / size) More) (cutAfter ((length message - 1) / size) (size + 1) (take (length (cutImage size message)) left)) message a
+    → Delivers (replicate ((length message - 1) / size) More)
+    (cutAfter ((length message - 1) / size) (size + 1) (take (length (cutImage size message)) left)) message a
 
 -- ---- from any record whatsoever
 -- after a 255 nothing is gathered and nothing is being discarded: any cutting behind it comes through
