@@ -16,7 +16,7 @@ use Rattle.wire.proofs.Choice.{or-fails}
 use Rattle.wire.proofs.Held.{held}
 use Rattle.wire.proofs.Lists.{nil-of}
 use Rattle.wire.proofs.Writers.{wrote}
-use Rattle.multipart.specs.Cutting.{partsFrom, parts, Cuts, cutAfter, pieces, cutImage, cutterRules, Filled}
+use Rattle.multipart.specs.Cutting.{partsFrom, parts, Cuts, cutAfter, piecesBefore, pieces, cutImage, cutterRules, Filled}
 
 -- ---- lengths
 -- the parts: a counter byte for each piece
@@ -84,20 +84,20 @@ module _ (size : ℕ) where
       piece-last n (drop size m) ∙ rw (drop-drop (n * size) size m, e)
 
   module _ (m : List ℕ) where
-    pub pieces-length : length (pieces size m) ≡ suc ((length m - 1) / size)
-    pieces-length = cutAfter-length ((length m - 1) / size) m
+    pub pieces-length : length (pieces size m) ≡ suc (piecesBefore size (length m))
+    pieces-length = cutAfter-length (piecesBefore size (length m)) m
 
     pub pieces-joined : flatten (pieces size m) ≡ m
-    pieces-joined = cutAfter-joined ((length m - 1) / size) m
+    pieces-joined = cutAfter-joined (piecesBefore size (length m)) m
 
     -- a message's bytes, and a counter byte for each piece
     pub image-length : length (cutImage size m) ≡ length m + length (pieces size m)
     unfolding cutImage
     image-length = parts-length 0 (pieces size m) ∙ ap (λ (l : List ℕ). length l + length (pieces size m)) pieces-joined
 
-    pub image-apart : cutAfter ((length m - 1) / size) (size + 1) (cutImage size m) ≡ parts (pieces size m)
+    pub image-apart : cutAfter (piecesBefore size (length m)) (size + 1) (cutImage size m) ≡ parts (pieces size m)
     unfolding cutImage
-    image-apart = apart ((length m - 1) / size) 0 m (omega (arith, div-mul-le-self (length m - 1) size))
+    image-apart = apart (piecesBefore size (length m)) 0 m (omega (arith, div-mul-le-self (length m - 1) size))
 
     -- ---- cut by the rules
     -- within the limits the pieces are a cutting
@@ -120,16 +120,16 @@ module _ (size : ℕ) where
         (d .0, d .1, rules-cut room e)
 
     -- ---- full, and as few as can be
-    last-length : length (getD (pieces size m) (length (pieces size m) - 1) []) ≡ length m - (length m - 1) / size * size
+    last-length : length (getD (pieces size m) (length (pieces size m) - 1) []) ≡ length m - piecesBefore size (length m) * size
     last-length =
-        let e : length (pieces size m) - 1 ≡ (length m - 1) / size = omega (arith, pieces-length) in
-        rw (e, piece-last ((length m - 1) / size) m) (length-drop ((length m - 1) / size * size) m)
+        let e : length (pieces size m) - 1 ≡ piecesBefore size (length m) = omega (arith, pieces-length) in
+        rw (e, piece-last (piecesBefore size (length m)) m) (length-drop (piecesBefore size (length m) * size) m)
 
     module _ (some : 0 < size) where
       -- every piece but the last has `size` bytes, the last has at most `size`, and none only where the message has none
       pub full-but-last : Filled size m (pieces size m)
       full-but-last =
-          let n : ℕ = (length m - 1) / size in
+          let n : ℕ = piecesBefore size (length m) in
           let low : n * size ≤ length m - 1 = div-mul-le-self (length m - 1) size in
           let high : length m - 1 < n * size + size = lt-div-mul-add some in
           record {

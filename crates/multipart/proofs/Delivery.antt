@@ -2,7 +2,7 @@
 use mathlib.Core.Path.{_≡_, refl, sym, ap, subst, _∙_}
 use mathlib.Core.Bool.{Bool, true, false, not, _||_, _&&_}
 use mathlib.Core.List.{List, [], _∷_, _++_, flatten, map, append-assoc, append-nil}
-use Prim.Native.Nat.{ℕ, suc, _+_, _-_, _/_, _≤_}
+use Prim.Native.Nat.{ℕ, suc, _+_, _-_, _≤_}
 use native.Mathlib.Omega.{arith}
 use lib.ListN.{length, drop, replicate, length-append}
 use lib.Seq.{take-append-seam, drop-append-add, drop-drop}
@@ -12,10 +12,10 @@ use Rattle.wire.specs.Choice.{pick}
 use Rattle.wire.specs.Writing.{placed}
 use Rattle.wire.proofs.Choice.{pick-all, and-holds, or-fails, true-false}
 use Rattle.wire.proofs.Lists.{part-in}
-use Rattle.multipart.specs.Cutting.{partsFrom, parts, Cuts, cutAfter, pieces, cutImage}
+use Rattle.multipart.specs.Cutting.{partsFrom, parts, Cuts, cutAfter, piecesBefore, pieces, cutImage}
 use Rattle.multipart.proofs.Cutting.{pieces-length, image-apart, cutter-cuts}
-use Rattle.multipart.specs.Assembler.{gathered, fresh, holding, outside, limited, stepTo, inTurn, outOfTurn, overLong, kept, counted, stepOf, messageOf}
-use Rattle.multipart.specs.Delivery.{answers, after, handed, handedOut, ready, Gives, Delivers, Assembles, CutAssembles, BehindLast, Recovers, Discards, AssemblesAll}
+use Rattle.multipart.specs.Assembler.{gathered, freshProgress, holding, outside, limited, stepTo, inTurn, outOfTurn, overLong, kept, counted, stepOf, messageOf}
+use Rattle.multipart.specs.Delivery.{answersTo, after, handed, handedOut, ready, Gives, Delivers, Assembles, CutAssembles, BehindLast, Recovers, Discards, AssemblesAll}
 use Rattle.multipart.specs.declared.Progress.{Progress}
 use Rattle.multipart.specs.declared.Assembler.{Assembler}
 use Rattle.multipart.specs.declared.PartAnswer.{PartAnswer}
@@ -39,7 +39,7 @@ stands-front message s =
 
 -- ---- the record
 -- one that is ready is limited as fresh
-pub ready-fresh : (p : Progress) → ready p ≡ true → limited p ≡ fresh
+pub ready-fresh : (p : Progress) → ready p ≡ true → limited p ≡ freshProgress
 unfolding ready limited outside
 ready-fresh p e = go (outside p) refl
   where
@@ -50,7 +50,7 @@ ready-fresh p e = go (outside p) refl
         let b = or-fails (ltb 255 (p .parts) || ltb 500 (p .bytes)) (eqb (p .parts) 0 && ltb 0 (p .bytes)) f in
         (n, omega (arith, ltb-false 0 (p .bytes) (rw (eq-eqb (p .parts) 0 n) at (b .1))), not-true (p .discarding) (a .1))
 
-    go : (t : Bool) → outside p ≡ t → limited p ≡ fresh
+    go : (t : Bool) → outside p ≡ t → limited p ≡ freshProgress
     go true f = rw f
     go false f = rw (f, idle f .0, idle f .1, idle f .2)
 
@@ -74,7 +74,7 @@ module _ (k : ℕ) (front bytes s : List ℕ) (p : Progress) (e : limited p ≡ 
       ∙ rw (e, ne-eqb k 255 (λ z. omega arith), eq-eqb k k refl)
       (rw (placed-more front bytes s, sym (length-append front bytes), le-ltb 500 (length (front ++ bytes)) fits))
 
-  last-kept : stepOf (holding p (placed 0 front s)) (255 ∷ bytes) ≡ stepTo fresh (placed 0 (front ++ bytes) s) (Message (length (front ++ bytes)))
+  last-kept : stepOf (holding p (placed 0 front s)) (255 ∷ bytes) ≡ stepTo freshProgress (placed 0 (front ++ bytes) s) (Message (length (front ++ bytes)))
   unfolding counted inTurn kept
   last-kept =
       counted-part (holding p (placed 0 front s)) 255 bytes
@@ -94,12 +94,12 @@ first-kept bytes s p e h =
 
 -- ---- many parts
 gives-none : (a : Assembler) → Gives [] a [] [] a
-unfolding answers after handedOut
+unfolding answersTo after handedOut
 gives-none a = record { answered = refl; hands = refl; leaves = refl }
 
 gives-more : {ps : List (List ℕ)} {given : List PartAnswer} {out : List (List ℕ)} {a a′ : Assembler} {part : List ℕ} (t : Step) → stepOf a part ≡ t
     → Gives ps (t .assembler) given out a′ → Gives (part ∷ ps) a (t .answer ∷ given) (handed (t .answer) (t .assembler .store) ++ out) a′
-unfolding answers after handedOut
+unfolding answersTo after handedOut
 gives-more t e g = record { answered = rw (e, g .answered); hands = rw (e, g .hands); leaves = rw (e, g .leaves) }
 
 -- from a counter on, behind what stands at the front of the store
@@ -107,12 +107,12 @@ module _ (message s : List ℕ) (fits : length message ≤ 500) where
   gives-from : (ds : List (List ℕ)) (d : List ℕ) (k : ℕ) (front : List ℕ) (p : Progress) → limited p ≡ gathered k (length front)
       → k + length ds ≤ 255 → front ++ flatten (d ∷ ds) ≡ message
       → Gives (partsFrom k (d ∷ ds)) (holding p (placed 0 front s)) (replicate (length ds) More ++ (Message (length message) ∷ [])) (message ∷ [])
-      (holding fresh (placed 0 message s))
+      (holding freshProgress (placed 0 message s))
   unfolding partsFrom flatten
   gives-from [] d k front p e h q =
       let m : front ++ d ≡ message = ap (λ (l : List ℕ). front ++ l) (sym (append-nil d)) ∙ q in
       let t = last-kept k front d s p e (omega (arith, ap length m)) in
-      let g = gives-more (stepTo fresh (placed 0 message s) (Message (length message))) (t ∙ rw m) (gives-none (holding fresh (placed 0 message s))) in
+      let g = gives-more (stepTo freshProgress (placed 0 message s) (Message (length message))) (t ∙ rw m) (gives-none (holding freshProgress (placed 0 message s))) in
       rw (stands-front message s) at g
   gives-from (d′ ∷ ds) d k front p e h q =
       let m = append-assoc front d (flatten (d′ ∷ ds)) ∙ q in
@@ -137,17 +137,17 @@ pub cut-assembles : CutAssembles
 unfolding cutImage
 cut-assembles size message room left answer a e w r =
     let c = cutter-cuts size message room left answer e w in
-    let n : length (pieces size message) - 1 ≡ (length message - 1) / size = omega (arith, pieces-length size message) in
-    let N : ℕ = (length message - 1) / size in
+    let n : length (pieces size message) - 1 ≡ piecesBefore size (length message) = omega (arith, pieces-length size message) in
+    let N : ℕ = piecesBefore size (length message) in
     subst (λ (ps : List (List ℕ)). Delivers (replicate N More) ps message a) (sym (ap (cutAfter N (size + 1)) (c .1) ∙ image-apart size message))
     (rw n at (assembles message (pieces size message) a (c .2) r))
 
 -- ---- from any record
-fresh-behind : (a : Assembler) (bytes : List ℕ) → stepOf a (255 ∷ bytes) .assembler .progress ≡ fresh
+fresh-behind : (a : Assembler) (bytes : List ℕ) → stepOf a (255 ∷ bytes) .assembler .progress ≡ freshProgress
 unfolding counted outOfTurn overLong kept
 fresh-behind a bytes =
     let p = limited (a .progress) in
-    let P : Step → Type 0 = λ t. t .assembler .progress ≡ fresh in
+    let P : Step → Type 0 = λ t. t .assembler .progress ≡ freshProgress in
     subst P (sym (counted-part a 255 bytes))
     (pick-all P (not (inTurn p 255)) (λ e. refl) (λ e. pick-all P (ltb 500 (p .bytes + length bytes)) (λ f. refl) (λ f. refl)))
 

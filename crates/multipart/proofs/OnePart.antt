@@ -13,14 +13,14 @@ use Rattle.wire.specs.Rules.{judge}
 use Rattle.wire.specs.Writing.{Stores, noRoom, placed}
 use Rattle.wire.specs.declared.Written.{Written}
 use Rattle.wire.proofs.Choice.{pick-all, and-holds, or-fails}
-use Rattle.multipart.specs.Assembler.{fresh, holding, outside, limited, stepTo, inTurn, outOfTurn, overLong, kept, counted, stepOf, partRules, given, answerNumber, TakesPart}
+use Rattle.multipart.specs.Assembler.{freshProgress, holding, outside, limited, stepTo, inTurn, outOfTurn, overLong, kept, counted, stepOf, partRules, lengthGiven, answerNumber, TakesPart}
 use Rattle.multipart.specs.declared.Assembler.{Assembler}
 use Rattle.multipart.specs.declared.PartAnswer.{PartAnswer}
 use Rattle.multipart.specs.declared.Step.{Step}
 use Rattle.multipart.specs.declared.Progress.{Progress}
 
 -- ---- a record outside the limits, and one within
-pub limited-outside : (p q : Progress) → outside p ≡ true → q ≡ fresh → (q ≡ limited p) × (q .parts ≤ 255) × (q .bytes ≤ 500)
+pub limited-outside : (p q : Progress) → outside p ≡ true → q ≡ freshProgress → (q ≡ limited p) × (q .parts ≤ 255) × (q .bytes ≤ 500)
 unfolding limited
 limited-outside p q e f = rw (f, e) (refl, omega arith, omega arith)
 
@@ -41,21 +41,21 @@ pub first-fits : (r : Bool) (counter n : ℕ) → r ≡ (eqb counter 0 && leb n 
 first-fits r counter n e t = omega (arith, leb-true n 500 (and-holds (eqb counter 0) (leb n 500) (sym e ∙ t) .1))
 
 -- whether the message goes over 500 bytes, as the code asks it
-pub over : (gathered n : ℕ) → 500 - gathered < n → ltb 500 (gathered + n) ≡ true
-over gathered n h = lt-ltb 500 (gathered + n) (omega arith)
+pub over : (had n : ℕ) → 500 - had < n → ltb 500 (had + n) ≡ true
+over had n h = lt-ltb 500 (had + n) (omega arith)
 
-pub not-over : (gathered n : ℕ) → gathered ≤ 500 → n ≤ 500 - gathered → ltb 500 (gathered + n) ≡ false
-not-over gathered n g h = le-ltb 500 (gathered + n) (omega arith)
+pub not-over : (had n : ℕ) → had ≤ 500 → n ≤ 500 - had → ltb 500 (had + n) ≡ false
+not-over had n g h = le-ltb 500 (had + n) (omega arith)
 
 -- ---- the answer's number
 -- the refusals come in order
 pub step-number : (a : Assembler) (part : List ℕ)
-    → answerNumber (stepOf a part .answer) ≡ judge refused (partRules (limited (a .progress)) part) (accepted (given (limited (a .progress)) part))
+    → answerNumber (stepOf a part .answer) ≡ judge refused (partRules (limited (a .progress)) part) (accepted (lengthGiven (limited (a .progress)) part))
 unfolding stepOf counted outOfTurn overLong kept
 step-number a part =
     let p = limited (a .progress) in
     let counter = getD part 0 0 in
-    let P : Step → Type 0 = λ t. answerNumber (t .answer) ≡ judge refused (partRules p part) (accepted (given p part)) in
+    let P : Step → Type 0 = λ t. answerNumber (t .answer) ≡ judge refused (partRules p part) (accepted (lengthGiven p part)) in
     pick-all P (eqb (length part) 0)
     (λ e. rw e)
     (λ e. pick-all P (not (inTurn p counter))

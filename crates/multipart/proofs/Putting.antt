@@ -2,7 +2,7 @@
 use mathlib.Core.Path.{_≡_, sym, ap, _∙_}
 use mathlib.Core.Bool.{true, _||_}
 use mathlib.Core.List.{List, [], _∷_, flatten, append-nil}
-use Prim.Native.Nat.{ℕ, suc, _+_, _-_, _*_, _/_, _≤_, _<_}
+use Prim.Native.Nat.{ℕ, suc, _+_, _-_, _*_, _≤_, _<_}
 use native.Mathlib.Nat.{suc-mul}
 use native.Mathlib.Numerals.{add-one}
 use native.Mathlib.Omega.{arith}
@@ -15,15 +15,16 @@ use Rattle.wire.specs.declared.Written.{Written}
 use Rattle.wire.specs.declared.Written.the-variants.{Wrote, Refused}
 use Rattle.wire.proofs.Lists.{sets-then}
 use Rattle.wire.proofs.Writing.{sets-placed, stores-refused, stores-past, stores-short, stores-made}
-use Rattle.multipart.specs.Cutting.{partsFrom, cutAfter, pieces, cutImage, cutterRules}
-use Rattle.multipart.proofs.Cutting.{cutAfter-length, remaining, first-of, image-length}
+use Rattle.multipart.specs.Cutting.{partsFrom, cutAfter, piecesBefore, pieces, cutImage, cutterRules}
+use Rattle.multipart.proofs.Cutting.{remaining, first-of, pieces-length, image-length}
+use Rattle.multipart.proofs.OnePart.{stored}
 
 -- one part: its counter is stored, and its bytes behind
 pub part-stored : (counter : ℕ) (bytes o : List ℕ) (at : ℕ) {answer : Written} {o′ : List ℕ} → at + suc (length bytes) ≤ length o
     → Stores (noRoom (at + 1) bytes (set o at counter) ∷ []) (at + 1) bytes (set o at counter) answer o′ → o′ ≡ sets o at (counter ∷ bytes)
-part-stored counter bytes o at h w =
+part-stored counter bytes o at {answer} {o′} h w =
     let l : at + 1 + length bytes ≤ length (set o at counter) = omega (arith, length-set o at counter) in
-    simp (le-ltb _ _ l) at (w .leaves)
+    stored (at + 1) bytes (set o at counter) o′ answer l w
     ∙ sym (sets-placed (at + 1) bytes (set o at counter) l)
     ∙ ap (λ (i : ℕ). sets (set o at counter) i bytes) (add-one at)
 
@@ -63,40 +64,42 @@ last-put size full from {k} m o o′ t e eo q =
 
 -- ---- how the cutter ends
 module _ (size : ℕ) (m room : List ℕ) where
+  abbrev Ends : Written → List ℕ → Type 0
+  Ends answer after = Stores (cutterRules size m room) 0 (cutImage size m) room answer after
+
   -- the message is too long
-  pub cut-long : 500 < length m → Stores (cutterRules size m room) 0 (cutImage size m) room (Refused 27) room
+  pub cut-long : 500 < length m → Ends (Refused 27) room
   cut-long h = stores-refused 0 (cutImage size m) room (cutterRules size m room) 26 (rw (lt-ltb _ _ h))
 
   module _ (h : length m ≤ 500) where
-    bad : eqb size 0 || ltb 256 (length (pieces size m)) ≡ true → Stores (cutterRules size m room) 0 (cutImage size m) room (Refused 17) room
+    bad : eqb size 0 || ltb 256 (length (pieces size m)) ≡ true → Ends (Refused 17) room
     bad e = stores-refused 0 (cutImage size m) room (cutterRules size m room) 16 (rw (le-ltb _ _ h, e))
 
     -- no bytes per part
-    pub cut-none : size ≡ 0 → Stores (cutterRules size m room) 0 (cutImage size m) room (Refused 17) room
-    cut-none e = bad (rw (eq-eqb size 0 e))
+    pub cut-no-size : size ≡ 0 → Ends (Refused 17) room
+    cut-no-size e = bad (rw (eq-eqb size 0 e))
 
-    module _ (full : ℕ) (some : size ≡ 0 → ⊥) (e : full ≡ (length m - 1) / size) where
+    module _ (full : ℕ) (some : size ≡ 0 → ⊥) (e : full ≡ piecesBefore size (length m)) where
       many : length (pieces size m) ≡ suc full
-      many = cutAfter-length size ((length m - 1) / size) m ∙ ap suc (sym e)
+      many = pieces-length size m ∙ ap suc (sym e)
 
       -- too many parts
-      pub cut-many : 255 < full → Stores (cutterRules size m room) 0 (cutImage size m) room (Refused 17) room
+      pub cut-many : 255 < full → Ends (Refused 17) room
       cut-many k = bad (rw (ne-eqb size 0 some) (lt-ltb 256 (length (pieces size m)) (omega (arith, many))))
 
       module _ (few : full ≤ 255) where
-        good : {answer : Written} {after : List ℕ} → Stores (noRoom 0 (cutImage size m) room ∷ []) 0 (cutImage size m) room answer after
-            → Stores (cutterRules size m room) 0 (cutImage size m) room answer after
+        good : {answer : Written} {after : List ℕ} → Stores (noRoom 0 (cutImage size m) room ∷ []) 0 (cutImage size m) room answer after → Ends answer after
         good w =
             stores-past 0 (cutImage size m) room 27 _ (le-ltb _ _ h)
             (stores-past 0 (cutImage size m) room 17 _ (rw (ne-eqb size 0 some) (le-ltb 256 (length (pieces size m)) (omega (arith, many)))) w)
 
         -- no room
-        pub cut-short : length room < length m + full + 1 → Stores (cutterRules size m room) 0 (cutImage size m) room (Refused 25) room
+        pub cut-short : length room < length m + full + 1 → Ends (Refused 25) room
         cut-short k = good (stores-short 0 (cutImage size m) room (omega (arith, image-length size m, many)))
 
         -- the parts are put
         pub cut-made : {after : List ℕ} → length m + full + 1 ≤ length room → after ≡ sets room 0 (remaining size 0 full m)
-            → Stores (cutterRules size m room) 0 (cutImage size m) room (Wrote (length m + full + 1)) after
+            → Ends (Wrote (length m + full + 1)) after
         unfolding cutImage
         cut-made k s =
             good

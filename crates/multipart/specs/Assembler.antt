@@ -21,8 +21,8 @@ use Rattle.multipart.specs.declared.Step.{Step}
 abbrev pub gathered : ℕ → ℕ → Progress
 gathered parts bytes = record { parts = parts; bytes = bytes; discarding = false }
 
-abbrev pub fresh : Progress
-fresh = gathered 0 0
+abbrev pub freshProgress : Progress
+freshProgress = gathered 0 0
 
 -- nothing is gathered, and parts are discarded
 abbrev pub discarding : Progress
@@ -33,7 +33,7 @@ holding p s = record { progress = p; store = s }
 
 -- the store is zero when fresh
 abbrev pub freshAssembler : Assembler
-freshAssembler = holding fresh (replicate 500 0)
+freshAssembler = holding freshProgress (replicate 500 0)
 
 -- counts outside the limits: above 255 parts, above 500 bytes, bytes without a part
 unfoldable pub outside : Progress → Bool
@@ -41,7 +41,7 @@ outside p = ltb 255 (p .parts) || ltb 500 (p .bytes) || (eqb (p .parts) 0 && ltb
 
 -- such a record is taken as fresh
 unfoldable pub limited : Progress → Progress
-limited p = pick (outside p) fresh p
+limited p = pick (outside p) freshProgress p
 
 -- ---- one part: how the record stands after it, and the answer
 abbrev pub stepTo : Progress → List ℕ → PartAnswer → Step
@@ -55,20 +55,20 @@ inTurn p counter = not (p .discarding) && (eqb counter 255 || eqb counter (p .pa
 unfoldable pub outOfTurn : List ℕ → ℕ → List ℕ → Step
 outOfTurn s counter bytes =
     pick (eqb counter 255)
-    (stepTo fresh s (Refused 26))
+    (stepTo freshProgress s (Refused 26))
     (pick (eqb counter 0 && leb (length bytes) 500)
     (stepTo (gathered 1 (length bytes)) (placed 0 bytes s) (Refused 26))
     (stepTo discarding s (Refused 26)))
 
 -- the message over 500 bytes: a 255 leaves no discarding behind
 unfoldable pub overLong : List ℕ → ℕ → Step
-overLong s counter = stepTo (pick (eqb counter 255) fresh discarding) s (Refused 27)
+overLong s counter = stepTo (pick (eqb counter 255) freshProgress discarding) s (Refused 27)
 
 -- the bytes go to the next places of the store; 255 is the last part
 unfoldable pub kept : Progress → List ℕ → ℕ → List ℕ → Step
 kept p s counter bytes =
     pick (eqb counter 255)
-    (stepTo fresh (placed (p .bytes) bytes s) (Message (p .bytes + length bytes)))
+    (stepTo freshProgress (placed (p .bytes) bytes s) (Message (p .bytes + length bytes)))
     (stepTo (gathered (p .parts + 1) (p .bytes + length bytes)) (placed (p .bytes) bytes s) More)
 
 -- a counter and bytes: 26 for a counter out of turn; 27 for a message over 500 bytes
@@ -88,7 +88,7 @@ stepOf a part =
     (counted (limited (a .progress)) (a .store) (getD part 0 0) (drop 1 part))
 
 -- ---- the numbers
--- the refusals in order, of a record taken as it is or as fresh
+-- the refusals in order, of a record within the limits
 abbrev pub partRules : Progress → List ℕ → List Rule
 partRules p part =
     (7 when eqb (length part) 0)
@@ -96,9 +96,9 @@ partRules p part =
     ∷ (27 when ltb 500 (p .bytes + length (drop 1 part)))
     ∷ []
 
--- what is given: nothing yet, or the message's length
-abbrev pub given : Progress → List ℕ → List ℕ
-given p part = pick (eqb (getD part 0 0) 255) ((p .bytes + length (drop 1 part)) ∷ []) []
+-- nothing yet, or the message's length
+abbrev pub lengthGiven : Progress → List ℕ → List ℕ
+lengthGiven p part = pick (eqb (getD part 0 0) 255) ((p .bytes + length (drop 1 part)) ∷ []) []
 
 abbrev pub answerNumber : PartAnswer → Judged (List ℕ) ℕ
 answerNumber More = accepted []
@@ -107,7 +107,7 @@ answerNumber (Refused n) = refused n
 
 -- what a function promises that takes one part
 pub record TakesPart (a : Assembler) (part : List ℕ) (a′ : Assembler) (answer : PartAnswer) : Type 0 where
-  pub number : answerNumber answer ≡ judge refused (partRules (limited (a .progress)) part) (accepted (given (limited (a .progress)) part))
+  pub number : answerNumber answer ≡ judge refused (partRules (limited (a .progress)) part) (accepted (lengthGiven (limited (a .progress)) part))
   -- the answer by the cases of the enum
   pub answers : answer ≡ stepOf a part .answer
   pub leaves : a′ ≡ stepOf a part .assembler

@@ -33,9 +33,12 @@ unfoldable pub cutAfter : ℕ → ℕ → List ℕ → List (List ℕ)
 cutAfter zero size message = message ∷ []
 cutAfter (suc n) size message = take size message ∷ cutAfter n size (drop size message)
 
--- every piece but the last is full, and the last is empty only where the message is
+-- how many stand before the last, where each of them is full and the last is empty only where the message is
+abbrev pub piecesBefore : ℕ → ℕ → ℕ
+piecesBefore size len = (len - 1) / size
+
 abbrev pub pieces : ℕ → List ℕ → List (List ℕ)
-pieces size message = cutAfter ((length message - 1) / size) size message
+pieces size message = cutAfter (piecesBefore size (length message)) size message
 
 -- the parts one behind the other
 unfoldable pub cutImage : ℕ → List ℕ → List ℕ

@@ -1,5 +1,5 @@
 -- What is proved of many parts: any cutting by the rules comes through. The statements; proofs/Delivery.antt proves them.
-use Prim.Native.Nat.{ℕ, _+_, _-_, _/_}
+use Prim.Native.Nat.{ℕ, _+_, _-_}
 use mathlib.Core.Path.{_≡_}
 use mathlib.Core.Bool.{Bool, true, false, not, _&&_, _||_}
 use mathlib.Core.List.{List, [], _∷_, _++_, flatten, map}
@@ -9,17 +9,17 @@ use Rattle.wire.specs.Choice.{pick}
 use Rattle.wire.specs.Rules.{firstBroken}
 use Rattle.wire.specs.Writing.{Stores, placed}
 use Rattle.wire.specs.declared.Written.{Written}
-use Rattle.multipart.specs.Cutting.{parts, Cuts, cutAfter, cutImage, cutterRules}
-use Rattle.multipart.specs.Assembler.{fresh, holding, outside, stepOf, messageOf}
+use Rattle.multipart.specs.Cutting.{parts, Cuts, cutAfter, piecesBefore, cutImage, cutterRules}
+use Rattle.multipart.specs.Assembler.{freshProgress, holding, outside, stepOf, messageOf}
 use Rattle.multipart.specs.declared.Progress.{Progress}
 use Rattle.multipart.specs.declared.Assembler.{Assembler}
 use Rattle.multipart.specs.declared.PartAnswer.{PartAnswer}
 use Rattle.multipart.specs.declared.PartAnswer.the-variants.{More, Message, Refused}
 
 -- ---- parts one after the other, each finding the assembler as the last left it
-unfoldable pub answers : List (List ℕ) → Assembler → List PartAnswer
-answers [] a = []
-answers (p ∷ ps) a = stepOf a p .answer ∷ answers ps (stepOf a p .assembler)
+unfoldable pub answersTo : List (List ℕ) → Assembler → List PartAnswer
+answersTo [] a = []
+answersTo (p ∷ ps) a = stepOf a p .answer ∷ answersTo ps (stepOf a p .assembler)
 
 unfoldable pub after : List (List ℕ) → Assembler → Assembler
 after [] a = a
@@ -37,7 +37,7 @@ handedOut (p ∷ ps) a = handed (stepOf a p .answer) (stepOf a p .assembler .sto
 
 -- what parts give: their answers, what is handed out, and the assembler after them
 pub record Gives (ps : List (List ℕ)) (a : Assembler) (given : List PartAnswer) (out : List (List ℕ)) (a′ : Assembler) : Type 0 where
-  pub answered : answers ps a ≡ given
+  pub answered : answersTo ps a ≡ given
   pub hands : handedOut ps a ≡ out
   pub leaves : after ps a ≡ a′
 
@@ -50,7 +50,7 @@ ready p = outside p || (eqb (p .parts) 0 && not (p .discarding))
 -- store, whose other bytes are as they were, and nothing is gathered or being discarded
 abbrev pub Delivers : List PartAnswer → List (List ℕ) → List ℕ → Assembler → Type 0
 Delivers early ps message a =
-    Gives ps a (early ++ (Message (length message) ∷ [])) (message ∷ []) (holding fresh (placed 0 message (a .store)))
+    Gives ps a (early ++ (Message (length message) ∷ [])) (message ∷ []) (holding freshProgress (placed 0 message (a .store)))
 
 -- any cutting by the rules, in an assembler that is ready: 'more' before the last
 abbrev pub Assembles : Type 0
@@ -63,13 +63,13 @@ abbrev pub CutAssembles : Type 0
 CutAssembles =
     (size : ℕ) (message room left : List ℕ) (answer : Written) (a : Assembler) → firstBroken (cutterRules size message room) ≡ 0
     → Stores (cutterRules size message room) 0 (cutImage size message) room answer left → ready (a .progress) ≡ true
-    → Delivers (replicate ((length message - 1) / size) More)
-    (cutAfter ((length message - 1) / size) (size + 1) (take (length (cutImage size message)) left)) message a
+    → Delivers (replicate (piecesBefore size (length message)) More)
+    (cutAfter (piecesBefore size (length message)) (size + 1) (take (length (cutImage size message)) left)) message a
 
 -- ---- from any record whatsoever
 -- after a 255 nothing is gathered and nothing is being discarded: any cutting behind it comes through
 pub record BehindLast (a : Assembler) (bytes : List ℕ) : Type 0 where
-  pub fresh-again : stepOf a (255 ∷ bytes) .assembler .progress ≡ fresh
+  pub fresh-again : stepOf a (255 ∷ bytes) .assembler .progress ≡ freshProgress
   pub next :
       (message : List ℕ) (ds : List (List ℕ)) → Cuts message ds
       → Delivers (replicate (length ds - 1) More) (parts ds) message (stepOf a (255 ∷ bytes) .assembler)

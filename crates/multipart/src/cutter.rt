@@ -1,11 +1,11 @@
 // The cutter: a message as parts, one behind the other.
 ghost use mathlib.Core.Path.{_≡_};
 ghost use mathlib.Core.List.{_∷_, flatten};
-ghost use Prim.Native.Nat.{suc, _+_, _-_, _*_, _/_, _≤_, _<_};
+ghost use Prim.Native.Nat.{suc, _+_, _*_, _≤_, _<_};
 ghost use lib.ListN.{length};
 ghost use lib.Seq.{sets};
 ghost use Rattle.wire.specs.Writing.{Stores};
-ghost use Rattle.multipart.specs.Cutting.{parts, cutAfter, cutImage, cutterRules};
+ghost use Rattle.multipart.specs.Cutting.{parts, cutAfter, piecesBefore, cutImage, cutterRules};
 use wire::Written;
 
 // A part at a place of the room.
@@ -21,7 +21,7 @@ fn put_part(counter: u8, bytes: &[u8], at: usize, out: &mut [u8])
 // How many parts stand before the last.
 fn parts_before(len: usize, size: usize) -> usize
     requires { ⌜ 0 < size ⌝ }
-    ensures { λ r. ⌜ (r ≡ (len - 1) / size) × (r * size ≤ len) ⌝ }
+    ensures { λ r. ⌜ (r ≡ piecesBefore size len) × (r * size ≤ len) ⌝ }
 {
     if len == 0 {
         return 0;
@@ -45,8 +45,9 @@ fn put_parts(message: &[u8], size: usize, full: usize, out: &mut [u8])
     put_part(255, &message[from..], from + full, out);
 }
 
-// A message as parts, one behind the other at the front of `out`: `size` data bytes in each but the last, and a counter byte before them. 27 for a message
-// above 500 bytes, 17 where `size` is 0 or more than 256 parts would be needed, then 25; a refusal writes nothing.
+// A message as parts, one behind the other at the front of `out`: `size` data bytes in each but the last, which is
+// empty only where the message is, and a counter byte before them. 27 for a message above 500 bytes, 17 where `size` is 0 or more than 256 parts would be
+// needed, then 25; a refusal writes nothing.
 pub fn cut(message: &[u8], size: usize, out: &mut [u8]) -> Written
     ensures { λ r. ⌜ Stores (cutterRules size (now (message .entry)) (now (out .entry))) 0
         (cutImage size (now (message .entry))) (now (out .entry)) r (now (out .exit)) ⌝ }

@@ -211,7 +211,8 @@ fn counted(was: Progress, store: &mut [u8; 500], counter: u8, bytes: &[u8]) -> T
     kept(was, store, counter, bytes)
 }
 
-// One part, into a store that is lent.
+// One part, into a store that is lent: the progress after it, and the answer. 7 for a part without a counter, which changes nothing; 26 for a counter out
+// of turn; 27 for a message above 500 bytes.
 pub fn take_part(was: Progress, store: &mut [u8; 500], part: &[u8]) -> Taken
     ensures { λ t. ⌜ TakesPart (specs.holding was (now (store .entry))) (now (part .entry)) (specs.holding (t .progress) (now (store .exit))) (t .answer) ⌝ }
 {
@@ -225,7 +226,7 @@ pub fn take_part(was: Progress, store: &mut [u8; 500], part: &[u8]) -> Taken
 }
 
 impl Assembler {
-    // One part: the record after it, and the answer.
+    // The same for the record as a whole.
     pub fn take_part(self, part: &[u8]) -> Step
         ensures { λ t. ⌜ TakesPart self (now (part .entry)) (t .assembler) (t .answer) ⌝ }
     {

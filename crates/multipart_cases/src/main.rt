@@ -4,7 +4,7 @@
 //   LABEL|a|RECORD|STORE|PART|..   parts to a record: how many parts and bytes it has gathered and whether it is discarding, with spaces between; the bytes
 //                                  of its store; the parts
 //   LABEL|c|SIZE|MESSAGE|ROOM      the cutter, with so many bytes EE for its room; what it writes goes, SIZE + 1 bytes at a time, to a fresh record
-// An answer is printed as . where more is to come, as the message, or as a refusal.
+// Bytes are listed as 0709+00*96. An answer is printed as . where more is to come, as the message, or as a refusal.
 ghost use Prim.Native.Nat.{_≤_, _<_};
 ghost use lib.ListN.{length};
 use multipart::PartAnswer;

@@ -1,5 +1,5 @@
 -- `cut` meets its contract. Assumes nothing.
-use Rattle.multipart.proofs.Putting.{cut-long, cut-none, cut-many, cut-short, cut-made}
+use Rattle.multipart.proofs.Putting.{cut-long, cut-no-size, cut-many, cut-short, cut-made}
 use borrow.Author.Needs.{needs}
 use Rattle.multipart.proofs.cutter.cut.Statement.{statement}
 use Rattle.multipart.proofs.cutter.cut.Tie as tie
@@ -8,7 +8,7 @@ returns : tie.Need-returns
 returns c = cut-long _ _ _ (c .if1 .taken)
 
 returns-2 : tie.Need-returns-2
-returns-2 c = cut-none _ _ _ (c .before .if1 .left) (c .if2 .taken)
+returns-2 c = cut-no-size _ _ _ (c .before .if1 .left) (c .if2 .taken)
 
 returns-3 : tie.Need-returns-3
 returns-3 c = cut-many _ _ _ (c .before .before .before .if1 .left) _ (c .before .before .if2 .left) (c .before .parts-before .ensures .0) (c .if3 .taken)
