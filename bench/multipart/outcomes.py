@@ -1,5 +1,5 @@
 #!/usr/bin/env python3
-"""Writes what crates/multipart_cases must print for the cases in its stdin, by the sentences of document 02, 1.
+"""Writes what crates/multipart_cases must print for the cases in its stdin, by the sentences of document 02 §1.
 
     python3 bench/multipart/outcomes.py > crates/multipart_cases/stdout
 """

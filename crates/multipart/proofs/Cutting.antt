@@ -16,7 +16,7 @@ use Rattle.wire.proofs.Choice.{or-fails}
 use Rattle.wire.proofs.Held.{held}
 use Rattle.wire.proofs.Lists.{nil-of}
 use Rattle.wire.proofs.Writers.{wrote}
-use Rattle.multipart.specs.Cutting.{partsFrom, parts, Cuts, cutAfter, piecesBefore, pieces, cutImage, cutterRules, Filled}
+use Rattle.multipart.specs.Cutting.{partsFrom, parts, Cuts, cutAfter, piecesBefore, pieces, cutImage, cutterRules, Filled, Fewest}
 
 -- ---- lengths
 -- the parts: a counter byte for each piece
@@ -148,9 +148,7 @@ module _ (size : ℕ) where
       held-in (d ∷ ds) h =
           omega (arith, length-append d (flatten ds), h 0 (omega arith), held-in ds (λ k i. h (suc k) (omega arith)), suc-mul (length ds) size)
 
-      -- any pieces of at most `size` bytes that are the message are as many or more
-      pub fewest : (ds : List (List ℕ)) → flatten ds ≡ m → 1 ≤ length ds → ((k : ℕ) → k < length ds → length (getD ds k []) ≤ size)
-          → length (pieces size m) ≤ length ds
+      pub fewest : Fewest size m (pieces size m)
       fewest ds e one h =
           let c : 1 * size ≤ length ds * size = mul-le-mul-right size one in
           let b : length m - 1 < length ds * size = omega (arith, ap length e, held-in ds h) in

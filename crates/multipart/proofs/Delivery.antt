@@ -14,8 +14,8 @@ use Rattle.wire.proofs.Choice.{pick-all, and-holds, or-fails, true-false}
 use Rattle.wire.proofs.Lists.{part-in}
 use Rattle.multipart.specs.Cutting.{partsFrom, parts, Cuts, cutAfter, piecesBefore, pieces, cutImage}
 use Rattle.multipart.proofs.Cutting.{pieces-length, image-apart, cutter-cuts}
-use Rattle.multipart.specs.Assembler.{gathered, freshProgress, holding, outside, limited, stepTo, inTurn, outOfTurn, overLong, kept, counted, stepOf, messageOf}
-use Rattle.multipart.specs.Delivery.{answersTo, after, handed, handedOut, ready, Gives, Delivers, Assembles, CutAssembles, BehindLast, Recovers, Discards, AssemblesAll}
+use Rattle.multipart.specs.Assembler.{gathered, freshProgress, freshAssembler, holding, outside, limited, stepTo, inTurn, outOfTurn, overLong, kept, counted, stepOf, messageOf}
+use Rattle.multipart.specs.Delivery.{answersTo, after, handed, handedOut, ready, Gives, Delivers, Assembles, CutAssembles, BehindLast, Recovers, Discards, AssemblesAll, SameMessages}
 use Rattle.multipart.specs.declared.Progress.{Progress}
 use Rattle.multipart.specs.declared.Assembler.{Assembler}
 use Rattle.multipart.specs.declared.PartAnswer.{PartAnswer}
@@ -38,7 +38,7 @@ stands-front message s =
     part-in (message ++ rest) 0 (length message) (omega (arith, length-append message rest)) ∙ take-append-seam message rest
 
 -- ---- the record
--- one that is ready is limited as fresh
+-- one that is ready is taken as fresh
 pub ready-fresh : (p : Progress) → ready p ≡ true → limited p ≡ freshProgress
 unfolding ready limited outside
 ready-fresh p e = go (outside p) refl
@@ -197,3 +197,8 @@ assembles-all (ds ∷ dss) a c e =
     let d = assembles (flatten ds) ds a (c .0) e in
     let rest = assembles-all dss (after (parts ds) a) (c .1) (ap (λ (b : Assembler). ready (b .progress)) (d .leaves)) in
     handed-append (parts ds) (flatten (map parts dss)) a ∙ rw (d .hands, rest)
+
+pub same-messages : SameMessages
+unfolding ready outside
+same-messages dss ess c d e =
+    sym (assembles-all dss freshAssembler c refl) ∙ ap (λ (ps : List (List ℕ)). handedOut ps freshAssembler) e ∙ assembles-all ess freshAssembler d refl

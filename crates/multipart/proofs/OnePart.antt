@@ -2,12 +2,12 @@
 use mathlib.Core.Path.{_≡_, refl, sym, ap, _∙_}
 use mathlib.Core.Bool.{Bool, true, false, not, _||_, _&&_}
 use mathlib.Core.List.{List, [], _∷_}
-use Prim.Native.Nat.{ℕ, _+_, _-_, _≤_, _<_}
+use Prim.Native.Nat.{ℕ, _+_, _-_, _≤_}
 use native.Mathlib.Omega.{arith}
 use lib.ListN.{length, getD, take, drop, length-drop}
 use lib.Seq.{take-all}
 use lib.Dec.{eqb, leb, ltb}
-use borrow.Author.Tests.{ltb-false, leb-true, lt-ltb, le-ltb, ne-eqb}
+use borrow.Author.Tests.{ltb-false, leb-true, le-ltb, ne-eqb}
 use Rattle.wire.specs.Content.{accepted, refused}
 use Rattle.wire.specs.Rules.{judge}
 use Rattle.wire.specs.Writing.{Stores, noRoom, placed}
@@ -39,13 +39,6 @@ stored at bytes room after answer h w = rw (le-ltb _ _ h) at (w .leaves)
 -- a 0 that is kept fits the store
 pub first-fits : (r : Bool) (counter n : ℕ) → r ≡ (eqb counter 0 && leb n 500) → r ≡ true → 0 + n ≤ 500
 first-fits r counter n e t = omega (arith, leb-true n 500 (and-holds (eqb counter 0) (leb n 500) (sym e ∙ t) .1))
-
--- whether the message goes over 500 bytes, as the code asks it
-pub over : (had n : ℕ) → 500 - had < n → ltb 500 (had + n) ≡ true
-over had n h = lt-ltb 500 (had + n) (omega arith)
-
-pub not-over : (had n : ℕ) → had ≤ 500 → n ≤ 500 - had → ltb 500 (had + n) ≡ false
-not-over had n g h = le-ltb 500 (had + n) (omega arith)
 
 -- ---- the answer's number
 -- the refusals come in order

@@ -57,3 +57,9 @@ pub record Filled (size : ℕ) (message : List ℕ) (ds : List (List ℕ)) : Typ
   pub full : (k : ℕ) → suc k < length ds → length (getD ds k []) ≡ size
   pub last : length (getD ds (length ds - 1) []) ≤ size
   pub empty : length (getD ds (length ds - 1) []) ≡ 0 → message ≡ []
+
+-- no pieces of at most `size` bytes that make the message are fewer
+abbrev pub Fewest : ℕ → List ℕ → List (List ℕ) → Type 0
+Fewest size message ds =
+    (es : List (List ℕ)) → flatten es ≡ message → 1 ≤ length es → ((k : ℕ) → k < length es → length (getD es k []) ≤ size)
+    → length ds ≤ length es

@@ -97,3 +97,9 @@ abbrev pub AssemblesAll : Type 0
 AssemblesAll =
     (dss : List (List (List ℕ))) (a : Assembler) → AllCut dss → ready (a .progress) ≡ true
     → handedOut (flatten (map parts dss)) a ≡ map flatten dss
+
+-- parts cannot be read two ways: lists of messages that make the same parts are the same
+abbrev pub SameMessages : Type 0
+SameMessages =
+    (dss ess : List (List (List ℕ))) → AllCut dss → AllCut ess → flatten (map parts dss) ≡ flatten (map parts ess)
+    → map flatten dss ≡ map flatten ess

@@ -1,8 +1,11 @@
 -- `counted` meets its contract. Assumes nothing.
 use mathlib.Core.Path.{sym}
+use Prim.Native.Nat.{_+_}
+use native.Mathlib.Omega.{arith}
+use lib.ListN.{length}
+use borrow.Author.Tests.{lt-ltb, le-ltb}
 use borrow.Author.Needs.{needs}
 use Rattle.multipart.specs.Assembler.{counted}
-use Rattle.multipart.proofs.OnePart.{over, not-over}
 use Rattle.multipart.proofs.counted.Statement.{statement}
 use Rattle.multipart.proofs.counted.Tie as tie
 
@@ -14,13 +17,15 @@ returns-2 : tie.Need-returns-2
 unfolding counted
 returns-2 c =
     let a = c .before .before .before in
-    simp (sym (a .before .in-turn .ensures), a .if1 .left, over _ _ (c .before .if2 .taken)) (c .over-long .ensures _)
+    let g = a .before .before .before .args in
+    simp (sym (a .before .in-turn .ensures), a .if1 .left, lt-ltb 500 (g .was .bytes + length (g .bytes .now)) (omega arith)) (c .over-long .ensures _)
 
 returns-3 : tie.Need-returns-3
 unfolding counted
 returns-3 c =
     let a = c .before .before .before .before in
-    simp (sym (a .before .in-turn .ensures), a .if1 .left, not-over _ _ (a .before .before .before .pre .1) (c .before .before .if2 .left)) (c .kept .ensures)
+    let g = a .before .before .before .args in
+    simp (sym (a .before .in-turn .ensures), a .if1 .left, le-ltb 500 (g .was .bytes + length (g .bytes .now)) (omega arith)) (c .kept .ensures)
 
 pub counted-spec : {M : Type 1} → statement M
 counted-spec =
