@@ -74,7 +74,7 @@ fn packet(number: usize, text: &[u8]) -> Packet {
     Packet { bytes, len: payload.len(), blocks: text.len() / 16 }
 }
 
-// Every size from 2 to 490; of each twentieth message also one with another validation, one with padding and one with a key ID.
+// Every size from 2 to 490; of each twentieth message also one with another validation, one with padding that is not zero and one with a key ID.
 fn packets() -> Vec<Packet> {
     let mut list = Vec::new();
     for message in (2..=490).flat_map(messages) {
@@ -84,7 +84,9 @@ fn packets() -> Vec<Packet> {
         if number % 20 == 0 {
             let (mut key, mut padding) = (text.clone(), text.clone());
             key[2] ^= 1;
-            *padding.last_mut().unwrap() ^= 1;
+            for (i, byte) in padding[6 + message.len()..].iter_mut().enumerate() {
+                *byte = 0xFF - i as u8;
+            }
             list.push(packet(number, &key));
             list.push(packet(number, &padding));
             list.push(packet(number, &text));

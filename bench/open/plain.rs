@@ -81,9 +81,6 @@ fn text(t: &[u8]) -> Result<u64, u64> {
     if end < 8 || t.len() != end.div_ceil(16) * 16 {
         return Err(12);
     }
-    if t[end..].iter().any(|&b| b != 0) {
-        return Err(13);
-    }
     message(&t[6..end])
 }
 

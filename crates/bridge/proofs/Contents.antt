@@ -142,7 +142,7 @@ module _ (g : Context) (major wrapper : ℕ) (p work : List ℕ) where
       let h = holds t (z .0) in
       ap (λ (l : List ℕ). answerContent (acceptedMessage true 6 m) p l) w
       ∙ message-content g Encrypted true 6 m p (t ++ drop (16 * blocksIn p) work) (omega (arith, h .some, h .size)) (z .1)
-      (message-in-text t (drop (16 * blocksIn p) work) (held (lateRules t) (tt, (tt, (tt, tt))) (z .0) .1 .0))
+      (message-in-text t (drop (16 * blocksIn p) work) (held (lateRules t) (tt, (tt, tt)) (z .0) .1 .0))
   accepted-content false e = plain-content g p work (none-append (headRules major wrapper) (plainRules g p) e .1)
 
   opened-content : answerContent (answerOf g (length work) major wrapper p) p (workAfter g major wrapper p work)

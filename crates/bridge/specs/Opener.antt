@@ -66,7 +66,7 @@ uartEntryRules g room p = blockRules p room ++ sessionRules g (getD p 3 0)
 unfoldable pub uartText : Context → List ℕ → List ℕ
 uartText g p = deciphered (adminKey g .bytes) (g .session .nonce) p
 
--- of the deciphered blocks: 11, 12, 13; then 14 to 24
+-- of the deciphered blocks: 11, 12; then 14 to 24
 unfoldable pub uartTextRules : Context → List ℕ → List Rule
 uartTextRules g text = lateRules text ++ messageRules Encrypted (g .required) (g .mode) (messageIn text)
 

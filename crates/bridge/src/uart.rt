@@ -143,7 +143,7 @@ fn end_of(m: &[u8]) -> usize
     6 + m.len()
 }
 
-// What an encrypted message deciphered to: 11 to 24, or the message.
+// What an encrypted message deciphered to: 11, 12, 14 to 24, or the message.
 fn read_text(text: &[u8], context: Context) -> Answer
     ensures { λ a. ⌜ a ≡ opening.textAnswer context (now (text .entry)) ⌝ }
 {

@@ -77,7 +77,7 @@ module _ (g : Context) (p : List ℕ) where
         let y = none-append (blockRules p room) (sessionRules g (getD p 3 0)) (x .0) in
         let z = none-append (lateRules t) (messageRules Encrypted (g .required) (g .mode) (messageIn t)) (x .1) in
         let s = held (sessionRules g (getD p 3 0)) (tt, (tt, (tt, tt))) (y .1) in
-        let h = held (lateRules t) (tt, (tt, (tt, tt))) (z .0) in
+        let h = held (lateRules t) (tt, (tt, tt)) (z .0) in
         let k = or-fails (not (eqb (getD p 3 0) 0)) (not (adminKey g .held)) (s .0) in
         let o = or-fails (ltb (messageSize t) 2) (notLeast t (6 + messageSize t)) (h .1 .0) in
         record {
@@ -89,7 +89,6 @@ module _ (g : Context) (p : List ℕ) where
           validation = eqb-true _ _ (not-false _ (h .0));
           size = ltb-false _ _ (o .0);
           least = eqb-true _ _ (not-false _ (o .1));
-          padding = not-false _ (h .1 .1 .0);
           message = message-accepts Encrypted (g .required) (g .mode) (messageIn t) (z .1);
         }
 
@@ -99,7 +98,7 @@ module _ (g : Context) (p : List ℕ) where
 
     late-clear : AcceptsSealed g room p → firstBroken (lateRules (uartText g p)) ≡ 0
     unfolding lateRules notLeast
-    late-clear w = rw (eq-eqb _ _ (w .validation), le-ltb (messageSize (uartText g p)) 2 (w .size), eq-eqb _ _ (w .least), w .padding)
+    late-clear w = rw (eq-eqb _ _ (w .validation), le-ltb (messageSize (uartText g p)) 2 (w .size), eq-eqb _ _ (w .least))
 
     sealed-clear : AcceptsSealed g room p → firstBroken (uartEntryRules g room p ++ uartTextRules g (uartText g p)) ≡ 0
     unfolding uartEntryRules uartTextRules
@@ -126,7 +125,7 @@ module _ (g : Context) (room major wrapper : ℕ) (p : List ℕ) where
         sealed = λ q. sealed-accepts g p room (rw (eq-eqb wrapper 128 q) at (x .1));
       }
 
-  rules-clear : AcceptsFrame g room major wrapper p → firstBroken (uartOpenRules g room major wrapper p) ≡ 0
+  pub rules-clear : AcceptsFrame g room major wrapper p → firstBroken (uartOpenRules g room major wrapper p) ≡ 0
   unfolding uartOpenRules
   rules-clear w =
       ⊎-elim

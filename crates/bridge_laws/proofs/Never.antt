@@ -1,5 +1,5 @@
 -- Numbers that an opener never gives. Assumes nothing.
-use mathlib.Core.Path.{_≡_, refl, sym, _∙_}
+use mathlib.Core.Path.{_≡_, refl, sym}
 use mathlib.Core.Bool.{Bool, true, false, not, _||_}
 use mathlib.Core.List.{List, [], _∷_, _++_}
 use Prim.Native.Nat.{ℕ}
@@ -7,7 +7,7 @@ use lib.ListN.{length, getD}
 use lib.Dec.{eqb, ltb}
 use borrow.Author.Tests.{not-false}
 use Rattle.wire.specs.Choice.{pick}
-use Rattle.wire.specs.Rules.{_when_, firstBroken}
+use Rattle.wire.specs.Rules.{_when_, firstBroken, numbers, among}
 use Rattle.wire.proofs.Choice.{true-false, or-fails}
 use Rattle.wire.proofs.Held.{held}
 use Rattle.wire.proofs.Lookup.{NoneOf}
@@ -17,7 +17,7 @@ use Rattle.access.specs.declared.Mode.the-variants.{Normal, Setup}
 use Rattle.access.specs.declared.Level.the-variants.{Admin}
 use Rattle.message.specs.Reading.{messageRules}
 use Rattle.message.specs.declared.Form.the-variants.{Plain, Encrypted}
-use Rattle.message.proofs.Never.{message-never}
+use Rattle.message.proofs.Never.{message-lacks-13, message-never}
 use Rattle.session.specs.Keys.{keyFor}
 use Rattle.session.specs.declared.Keys.{Keys}
 use Rattle.envelope.specs.Sealed.{lateRules, messageIn}
@@ -29,7 +29,7 @@ use Rattle.bridge.specs.Characteristic.{connectionRules, packetEntryRules, pack
 use Rattle.bridge.specs.declared.Context.{Context}
 use Rattle.bridge.specs.declared.Link.{Link}
 
--- ---- a frame: 22 never
+-- ---- a frame: 13 and 22 never
 -- an admin key is held in normal mode only
 admin-normal : (k : Keys) (m : Mode) → keyFor k m Admin .held ≡ true → m ≡ Normal
 admin-normal k Normal e = refl
@@ -65,13 +65,22 @@ module _ (g : Context) (room : ℕ) (p : List ℕ) where
       go true e = sealed-never (past-first (headRules major wrapper) (uartEntryRules g room p ++ uartTextRules g (uartText g p)) 21 refl e .1)
       go false e = plain-never (past-first (headRules major wrapper) (plainRules g p) 21 refl e .1)
 
-  -- the opener of frames never gives 22
-  pub frame-never : (major wrapper : ℕ) → refusalNumber (opened g room major wrapper p .answer) ≡ 22 → ⊥
+  rules-lack-13 : (major wrapper : ℕ) → among 13 (numbers (uartOpenRules g room major wrapper p)) ≡ false
+  unfolding uartOpenRules uartEntryRules sessionRules uartTextRules lateRules plainRules
+  rules-lack-13 major wrapper = go (eqb wrapper 128)
+    where
+      go : (b : Bool) → among 13 (numbers (headRules major wrapper ++ pick b (uartEntryRules g room p ++ uartTextRules g (uartText g p)) (plainRules g p))) ≡ false
+      go true = message-lacks-13 Encrypted (g .required) (g .mode) (messageIn (uartText g p))
+      go false = message-lacks-13 Plain (g .required) (g .mode) p
+
+  -- the opener of frames gives neither
+  pub frame-never : (major wrapper : ℕ) → NoneOf (13 ∷ 22 ∷ []) (refusalNumber (opened g room major wrapper p .answer))
   unfolding opened answerOf
-  frame-never major wrapper e =
-      rules-never major wrapper
-      (sym (number-given refusalNumber refusedAnswer (uartOpenRules g room major wrapper p)
-      (pick (eqb wrapper 128) (acceptedMessage true 6 (messageIn (uartText g p))) (acceptedMessage false 0 p)) (λ n. refl) (zero (eqb wrapper 128))) ∙ e)
+  frame-never major wrapper =
+      let rules = uartOpenRules g room major wrapper p in
+      rw (number-given refusalNumber refusedAnswer rules
+      (pick (eqb wrapper 128) (acceptedMessage true 6 (messageIn (uartText g p))) (acceptedMessage false 0 p)) (λ n. refl) (zero (eqb wrapper 128)))
+      (never rules 12 (rules-lack-13 major wrapper), (rules-never major wrapper, tt))
     where
       zero : (b : Bool) → refusalNumber (pick b (acceptedMessage true 6 (messageIn (uartText g p))) (acceptedMessage false 0 p)) ≡ 0
       zero true = refl

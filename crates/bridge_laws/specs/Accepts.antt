@@ -14,9 +14,9 @@ use Rattle.message.specs.Accepts.{AcceptsMessage}
 use Rattle.message.specs.declared.Form.the-variants.{Plain, Encrypted}
 use Rattle.session.specs.Session.{validAt}
 use Rattle.session.specs.Keys.{keyForNumber}
-use Rattle.envelope.specs.Blocks.{blocksIn, allZero}
+use Rattle.envelope.specs.Blocks.{blocksIn}
 use Rattle.envelope.specs.Sealed.{messageSize, messageIn}
-use Rattle.envelope.specs.Characteristic.{packetSize, packetIn}
+use Rattle.envelope.specs.Characteristic.{packetSize, allZero, packetIn}
 use Rattle.bridge.specs.Opener.{adminKey, uartText}
 use Rattle.bridge.specs.Characteristic.{accessFor, packetText}
 use Rattle.bridge.specs.declared.Context.{Context}
@@ -55,11 +55,10 @@ pub record AcceptsSealed (g : Context) (room : ℕ) (p : List ℕ) : Type 0 wher
   -- a session, which has not run out
   pub session : g .session .held ≡ true
   pub valid : validAt (g .session) (g .time) ≡ true
-  -- of the blocks deciphered: validation, message size, n the least, zero padding
+  -- of the blocks deciphered: validation, message size, n the least; of the padding nothing
   pub validation : num 4 0 (uartText g p) ≡ 0xCAFEBABE
   pub size : 2 ≤ messageSize (uartText g p)
   pub least : length (uartText g p) ≡ 16 * blocksFor (6 + messageSize (uartText g p))
-  pub padding : allZero (drop (6 + messageSize (uartText g p)) (uartText g p)) ≡ true
   pub message : AcceptsMessage Encrypted (g .required) (g .mode) (messageIn (uartText g p))
 
 pub record AcceptsFrame (g : Context) (room major wrapper : ℕ) (p : List ℕ) : Type 0 where

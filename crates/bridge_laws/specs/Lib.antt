@@ -1,3 +1,4 @@
 pub mod Accepts
 pub mod RoundTrip
 pub mod Assembled
+pub mod Padding

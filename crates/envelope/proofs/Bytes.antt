@@ -10,7 +10,8 @@ use lib.ListN.{length, getD, take, drop, replicate, length-take, drop-of-length-
 use lib.Seq.{drop-cons, take-suc, take-all}
 use lib.Dec.{eqb}
 use borrow.Author.Tests.{eq-eqb}
-use Rattle.envelope.specs.Blocks.{allZero, cleared}
+use Rattle.envelope.specs.Blocks.{cleared}
+use Rattle.envelope.specs.Characteristic.{allZero}
 use Rattle.envelope.specs.Characteristic.{sameBytes}
 
 -- ---- zeros from a place on: one byte, and the end

@@ -11,7 +11,7 @@ use Rattle.wire.proofs.Lists.{nil-of}
 use Rattle.wire.proofs.Fields.{to-end}
 use Rattle.aes.specs.Ctr.{blocksFor, ctrOf}
 use Rattle.aes.proofs.KeyStream.{length-ctr, ctr-twice}
-use Rattle.envelope.specs.Blocks.{padded, enveloped, blocksIn, deciphered, wrongLength}
+use Rattle.envelope.specs.Blocks.{paddingFor, padded, enveloped, blocksIn, deciphered, wrongLength}
 use Rattle.envelope.proofs.Bytes.{three}
 
 -- `blocksFor n` blocks hold n bytes, and fewer do not
@@ -23,7 +23,7 @@ blocks-least n k h = omega arith
 
 pub length-padded : (s : List ℕ) → length (padded s) ≡ 16 * blocksFor (length s)
 length-padded s =
-    let k : ℕ = 16 * blocksFor (length s) - length s in
+    let k : ℕ = paddingFor s in
     omega (arith, length-append s (replicate k 0), length-replicate {A = ℕ} k 0)
 
 module _ (key pn sn : List ℕ) (id : ℕ) (text : List ℕ) (three-bytes : length pn ≡ 3) where

@@ -18,7 +18,7 @@ use Rattle.wire.proofs.Writing.{stores-refused, stores-past}
 use Rattle.aes.specs.Ctr.{blocksFor, ctrOf}
 use Rattle.aes.proofs.KeyStream.{length-ctr}
 use Rattle.session.specs.declared.Key.{Key}
-use Rattle.envelope.specs.Blocks.{padded, enveloped, outside, sealerRules, Seals}
+use Rattle.envelope.specs.Blocks.{paddingFor, padded, enveloped, outside, sealerRules, Seals}
 use Rattle.envelope.proofs.Bytes.{three}
 use Rattle.envelope.proofs.Envelopes.{length-padded, length-enveloped}
 
@@ -55,7 +55,7 @@ zeros-behind h b {t} n k et eu =
 -- as many bytes of a text and its zeros as the blocks hold
 padded-front : (s : List ℕ) (l room n : ℕ) → length s ≡ l → n ≡ 16 * blocksFor l → n ≤ room → take n (s ++ replicate (room - l) 0) ≡ padded s
 padded-front s l room n el e h =
-    let k : ℕ = 16 * blocksFor (length s) - length s in
+    let k : ℕ = paddingFor s in
     let d : n ≡ length s + k = omega arith in
     rw d (take-append-add s (replicate (room - l) 0) k ∙ ap (λ (l : List ℕ). s ++ l) (take-zeros k (room - l) (omega arith)))
 

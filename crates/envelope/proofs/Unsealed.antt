@@ -1,28 +1,28 @@
 -- Unsealing undoes sealing, and equal images come of equal packet nonces and messages. No byte needs a bound. Assumes nothing.
 use mathlib.Core.Path.{_≡_, refl, sym, ap, ap₂, _∙_}
-use mathlib.Core.Bool.{true, false}
+use mathlib.Core.Bool.{Bool, true, false, _||_}
 use mathlib.Core.List.{List, [], _∷_, _++_, append-assoc, append-nil}
 use Prim.Native.Nat.{ℕ, zero, suc, _+_, _-_, _*_, _≤_, _<_}
 use native.Mathlib.Omega.{arith}
-use lib.ListN.{length, getD, take, drop, replicate, length-append, List·getD-append}
+use lib.ListN.{length, getD, take, drop, replicate, length-append, length-replicate, List·getD-append}
 use lib.Seq.{take-at, drop-at, getD-append-add, getD-drop, getD-take}
-use lib.Dec.{eqb}
+use lib.Dec.{eqb, ltb}
 use borrow.Author.Tests.{le-ltb, eq-eqb, eqb-true}
 use Rattle.wire.proofs.Choice.{true-false, and-holds}
 use Rattle.wire.proofs.Held.{held}
-use Rattle.wire.specs.Numbers.{num, le}
-use Rattle.wire.specs.Rules.{firstBroken}
+use Rattle.wire.specs.Numbers.{num}
+use Rattle.wire.specs.Choice.{pick}
+use Rattle.wire.specs.Rules.{_when_, firstBroken}
 use Rattle.aes.specs.Ctr.{blocksFor}
-use Rattle.envelope.specs.Blocks.{padded, blocksIn, deciphered, wrongLength, notLeast, allZero}
-use Rattle.envelope.specs.Sealed.{plainText, sealedImage, messageSize, messageMisfit, lateRules, messageIn}
-use Rattle.envelope.specs.Characteristic.{characteristicText, characteristicImage, sameBytes, packetSize, characteristicRules, packetIn}
+use Rattle.envelope.specs.Blocks.{paddingFor, padded, blocksIn, deciphered, wrongLength, notLeast}
+use Rattle.envelope.specs.Sealed.{unpadded, plainText, sealedImage, messageSize, messageMisfit, lateRules, messageIn}
+use Rattle.envelope.specs.Characteristic.{characteristicText, characteristicImage, sameBytes, packetSize, allZero, characteristicRules, packetIn}
 use Rattle.envelope.proofs.Envelopes.{length-padded, length-enveloped, nonce-enveloped, id-enveloped, deciphered-enveloped, same-enveloped, whole-padded}
 use Rattle.envelope.proofs.Misfit.{least-blocks, length-within, size-fits, message-fits, packet-fits}
 
-zeros-zero : (n : ℕ) → allZero (replicate n 0) ≡ true
-unfolding allZero
-zeros-zero zero = refl
-zeros-zero (suc n) = zeros-zero n
+or-none : (b : Bool) → (b || false) ≡ b
+or-none true = refl
+or-none false = refl
 
 pub same-self : (s : List ℕ) → sameBytes s s ≡ true
 same-self [] = refl
@@ -36,63 +36,71 @@ same-bytes (a ∷ s) (b ∷ t) e =
     let h = and-holds (eqb a b) (sameBytes s t) e in
     ap₂ (λ (x : ℕ) (l : List ℕ). x ∷ l) (eqb-true a b (h .0)) (same-bytes s t (h .1))
 
--- ---- padded bytes
-module _ (s : List ℕ) (n : ℕ) (l : length s ≡ n) where
-  pub padding-zero : allZero (drop n (padded s)) ≡ true
-  padding-zero = rw (drop-at s (replicate (16 * blocksFor (length s) - length s) 0) n l) (zeros-zero (16 * blocksFor (length s) - length s))
-
-  pub padded-least : notLeast (padded s) n ≡ false
-  unfolding notLeast
-  padded-least =
-      let e : length (padded s) ≡ 16 * blocksFor n = length-padded s ∙ ap (λ (k : ℕ). 16 * blocksFor k) l in
-      rw (eq-eqb _ _ e)
-
 -- ---- the encrypted wrapper payload
+-- a message's bytes with any padding that fills up to the least number of blocks
+module _ (m padding : List ℕ) (fills : length padding ≡ paddingFor (unpadded m)) where
+  pub length-with : length (unpadded m ++ padding) ≡ 16 * blocksFor (6 + length m)
+  length-with = omega (arith, length-append m padding)
+
+  pub size-with : messageSize (unpadded m ++ padding) ≡ length m
+  size-with = omega arith
+
+  least-with : notLeast (unpadded m ++ padding) (6 + length m) ≡ false
+  unfolding notLeast
+  least-with = rw (eq-eqb _ _ length-with)
+
+  misfit-with : messageMisfit (unpadded m ++ padding) ≡ ltb (length m) 2
+  misfit-with = rw (size-with, least-with) (or-none (ltb (length m) 2))
+
+  -- 12 is left, by the message's length
+  pub late-with : lateRules (unpadded m ++ padding) ≡ (11 when false) ∷ (12 when ltb (length m) 2) ∷ []
+  unfolding lateRules
+  late-with = rw misfit-with
+
+  by-size-with : take (messageSize (unpadded m ++ padding)) (drop 6 (unpadded m ++ padding)) ≡ m
+  by-size-with = ap (λ (n : ℕ). take n (drop 6 (unpadded m ++ padding))) size-with ∙ take-at m padding (length m) refl
+
+  pub message-with : messageIn (unpadded m ++ padding) ≡ pick (ltb (length m) 2) [] m
+  unfolding messageIn
+  message-with = rw misfit-with (ap (pick (ltb (length m) 2) []) by-size-with)
+
+-- ours
 module _ (m : List ℕ) where
-  length-unpadded : length (le 4 0xCAFEBABE ++ (le 2 (length m) ++ m)) ≡ 6 + length m
-  length-unpadded = omega arith
+  abbrev zeros : List ℕ
+  zeros = replicate (paddingFor (unpadded m)) 0
+
+  zeros-fill : length zeros ≡ paddingFor (unpadded m)
+  zeros-fill = length-replicate {A = ℕ} (paddingFor (unpadded m)) 0
 
   pub length-plain : length (plainText m) ≡ 16 * blocksFor (6 + length m)
   unfolding plainText
-  length-plain = length-padded (le 4 0xCAFEBABE ++ (le 2 (length m) ++ m)) ∙ omega arith
+  length-plain = length-with m zeros zeros-fill
 
-  validation-plain : num 4 0 (plainText m) ≡ 0xCAFEBABE
+  pub late-is : lateRules (plainText m) ≡ (11 when false) ∷ (12 when ltb (length m) 2) ∷ []
   unfolding plainText
-  validation-plain = refl
+  late-is = late-with m zeros zeros-fill
 
-  pub size-plain : messageSize (plainText m) ≡ length m
+  by-size : take (messageSize (plainText m)) (drop 6 (plainText m)) ≡ m
   unfolding plainText
-  size-plain = omega arith
+  by-size = by-size-with m zeros zeros-fill
 
-  least-plain : notLeast (plainText m) (6 + length m) ≡ false
+  pub message-is : messageIn (plainText m) ≡ pick (ltb (length m) 2) [] m
   unfolding plainText
-  least-plain = padded-least (le 4 0xCAFEBABE ++ (le 2 (length m) ++ m)) (6 + length m) length-unpadded
+  message-is = message-with m zeros zeros-fill
 
-  zero-plain : allZero (drop (6 + length m) (plainText m)) ≡ true
-  unfolding plainText
-  zero-plain = padding-zero (le 4 0xCAFEBABE ++ (le 2 (length m) ++ m)) (6 + length m) length-unpadded
-
-  fits-plain : 2 ≤ length m → messageMisfit (plainText m) ≡ false
-  fits-plain h = rw (size-plain, le-ltb (length m) 2 h, least-plain)
-
-  -- none of 11, 12 and 13
+  -- neither 11 nor 12
   pub late-plain : 2 ≤ length m → firstBroken (lateRules (plainText m)) ≡ 0
-  unfolding lateRules
-  late-plain h = rw (eq-eqb _ _ validation-plain, fits-plain h, size-plain, zero-plain)
+  late-plain h = rw (late-is, le-ltb (length m) 2 h)
 
   -- the message, with anything behind the text
   pub message-behind : (rest : List ℕ) → take (length m) (drop 6 (plainText m ++ rest)) ≡ m
   unfolding plainText
   message-behind rest = rw (append-assoc m) (take-at m _ (length m) refl)
 
-  message-by-size : take (messageSize (plainText m)) (drop 6 (plainText m)) ≡ m
-  unfolding plainText
-  message-by-size = ap (λ (n : ℕ). take n (drop 6 (plainText m))) size-plain ∙ take-at m _ (length m) refl
-
   pub message-plain : 2 ≤ length m → messageIn (plainText m) ≡ m
-  message-plain h = message-fits (plainText m) (fits-plain h) ∙ message-by-size
+  message-plain h = rw (message-is, le-ltb (length m) 2 h)
 
--- where none of 11, 12 and 13 is given, the blocks hold the message
+-- where neither 11 nor 12 is given, the blocks hold the message
 pub record Holds (text : List ℕ) : Type 0 where
   pub some : 2 ≤ messageSize text
   pub least : length text ≡ 16 * blocksFor (6 + messageSize text)
@@ -102,7 +110,7 @@ pub holds : (text : List ℕ) → firstBroken (lateRules text) ≡ 0 → Holds t
 unfolding lateRules
 holds text e =
     let n : ℕ = messageSize text in
-    let fits = held (lateRules text) (tt, (tt, (tt, tt))) e .1 .0 in
+    let fits = held (lateRules text) (tt, (tt, tt)) e .1 .0 in
     let s = size-fits text fits in
     record {
       some = s .0;
@@ -129,7 +137,7 @@ module _ (key pn sn m : List ℕ) (three-bytes : length pn ≡ 3) where
   -- not 7
   pub sealed-whole : length m ≤ 490 → wrongLength (sealedImage key pn sn m) ≡ false
   unfolding sealedImage plainText
-  sealed-whole h = whole-padded key pn sn 0 (le 4 0xCAFEBABE ++ (le 2 (length m) ++ m)) three-bytes (omega arith) (omega arith)
+  sealed-whole h = whole-padded key pn sn 0 (unpadded m) three-bytes (omega arith) (omega arith)
 
   pub unsealed : deciphered key sn (sealedImage key pn sn m) ≡ plainText m
   unfolding sealedImage
@@ -148,9 +156,25 @@ pub same-sealed : (key sn : List ℕ) {pn pn′ m m′ : List ℕ} → length pn
 unfolding sealedImage
 same-sealed key sn {m} {m′} h h′ e =
     let s = same-enveloped key sn h h′ e in
-    (s .0, sym (message-by-size m) ∙ ap (λ (t : List ℕ). take (messageSize t) (drop 6 t)) (s .2) ∙ message-by-size m′)
+    (s .0, sym (by-size m) ∙ ap (λ (t : List ℕ). take (messageSize t) (drop 6 t)) (s .2) ∙ by-size m′)
 
 -- ---- the characteristic packet
+zeros-zero : (n : ℕ) → allZero (replicate n 0) ≡ true
+unfolding allZero
+zeros-zero zero = refl
+zeros-zero (suc n) = zeros-zero n
+
+-- padded bytes
+module _ (s : List ℕ) (n : ℕ) (l : length s ≡ n) where
+  pub padding-zero : allZero (drop n (padded s)) ≡ true
+  padding-zero = rw (drop-at s (replicate (paddingFor s) 0) n l) (zeros-zero (paddingFor s))
+
+  pub padded-least : notLeast (padded s) n ≡ false
+  unfolding notLeast
+  padded-least =
+      let e : length (padded s) ≡ 16 * blocksFor n = length-padded s ∙ ap (λ (k : ℕ). 16 * blocksFor k) l in
+      rw (eq-eqb _ _ e)
+
 -- where 18 is not given, the packet has 5 + size bytes, as its reader asks
 pub packet-sized : (text : List ℕ) → notLeast text (4 + packetSize text) ≡ false → length (packetIn text) ≡ 5 + num 2 3 (packetIn text)
 packet-sized text e =
@@ -175,14 +199,14 @@ module _ (v p : List ℕ) (four-bytes : length v ≡ 4) where
   pub packet-behind : (rest : List ℕ) → take (length p) (drop 4 (characteristicText v p ++ rest)) ≡ p
   unfolding characteristicText
   packet-behind rest =
-      let z : List ℕ = replicate (16 * blocksFor (length (v ++ p)) - length (v ++ p)) 0 in
+      let z : List ℕ = replicate (paddingFor (v ++ p)) 0 in
       let e : ((v ++ p) ++ z) ++ rest ≡ v ++ (p ++ (z ++ rest)) = simp append-assoc in
       rw (e, drop-at v (p ++ (z ++ rest)) 4 four-bytes) (take-at p (z ++ rest) (length p) refl)
 
   place : (i : ℕ) → i < length p → getD (characteristicText v p) (4 + i) 0 ≡ getD p i 0
   unfolding characteristicText
   place i h =
-      let z : List ℕ = replicate (16 * blocksFor (length (v ++ p)) - length (v ++ p)) 0 in
+      let z : List ℕ = replicate (paddingFor (v ++ p)) 0 in
       rw (append-assoc v p z) (ap (λ (n : ℕ). getD (v ++ (p ++ z)) (n + i) 0) (sym four-bytes) ∙ getD-append-add v (p ++ z) i 0 ∙ List·getD-append p z 0 i h)
 
   -- ---- a packet whose size field is right

@@ -1,6 +1,6 @@
 -- Document 01, 'Cipher and session': what an encrypted wrapper payload and a characteristic packet have in common.
 use Prim.Native.Nat.{ℕ, _+_, _-_, _*_, _/_, min}
-use mathlib.Core.Bool.{Bool, true, not, _&&_, _||_}
+use mathlib.Core.Bool.{Bool, not, _||_}
 use mathlib.Core.List.{List, [], _∷_, _++_}
 use lib.ListN.{length, take, drop, replicate}
 use lib.Dec.{eqb, ltb}
@@ -11,9 +11,13 @@ use Rattle.aes.specs.Ctr.{blocksFor, ctrOf}
 use Rattle.session.specs.declared.Key.{Key}
 
 -- ---- sealing
--- zero padding to the least number of blocks that holds the bytes
+-- how many bytes of padding: to the least number of blocks that holds the bytes
+abbrev pub paddingFor : List ℕ → ℕ
+paddingFor s = 16 * blocksFor (length s) - length s
+
+-- ours is zero
 abbrev pub padded : List ℕ → List ℕ
-padded s = s ++ replicate (16 * blocksFor (length s) - length s) 0
+padded s = s ++ replicate (paddingFor s) 0
 
 -- packet nonce, key ID or user level, n blocks. The counter is no parameter: it starts at 0 in `ctrOf`, for each packet
 unfoldable pub enveloped : List ℕ → List ℕ → List ℕ → ℕ → List ℕ → List ℕ
@@ -52,10 +56,6 @@ roomRule payload room = 25 when ltb room (16 * blocksIn payload)
 -- the blocks are not the least number that holds so many bytes
 unfoldable pub notLeast : List ℕ → ℕ → Bool
 notLeast text size = not (eqb (length text) (16 * blocksFor size))
-
-unfoldable pub allZero : List ℕ → Bool
-allZero [] = true
-allZero (b ∷ s) = eqb b 0 && allZero s
 
 -- the first n bytes zero, or as many as there are
 abbrev pub cleared : ℕ → List ℕ → List ℕ

@@ -7,7 +7,7 @@ use lib.Dec.{eqb}
 use Rattle.wire.specs.Choice.{pick}
 use Rattle.wire.specs.Numbers.{num}
 use Rattle.wire.specs.Rules.{Rule, _when_}
-use Rattle.envelope.specs.Blocks.{padded, enveloped, notLeast, allZero}
+use Rattle.envelope.specs.Blocks.{padded, enveloped, notLeast}
 
 -- ---- sealing
 -- the connection's validation key (4), control packet, zero padding
@@ -32,6 +32,10 @@ packetSize text = 5 + num 2 7 text
 -- 18: the packet too short, or n not the least
 abbrev pub packetMisfit : List ℕ → Bool
 packetMisfit text = notLeast text (4 + packetSize text)
+
+unfoldable pub allZero : List ℕ → Bool
+allZero [] = true
+allZero (b ∷ s) = eqb b 0 && allZero s
 
 -- rules of the n blocks deciphered
 unfoldable pub characteristicRules : List ℕ → List ℕ → List Rule

@@ -8,9 +8,9 @@ ghost use Prim.Native.Nat.{_≤_, min};
 ghost use lib.ListN.{take, drop};
 ghost use Rattle.wire.specs.Rules.{firstBroken};
 ghost use Rattle.wire.specs.Writing.{Stores, noRoom};
-ghost use Rattle.envelope.specs.Blocks.{blocksIn, deciphered, lengthRule, roomRule, notLeast, allZero, cleared};
+ghost use Rattle.envelope.specs.Blocks.{blocksIn, deciphered, lengthRule, roomRule, notLeast, cleared};
 ghost use Rattle.envelope.specs.Sealed.{messageSize, messageMisfit, lateRules, messageIn};
-ghost use Rattle.envelope.specs.Characteristic.{sameBytes, packetSize, packetMisfit, characteristicRules, packetIn};
+ghost use Rattle.envelope.specs.Characteristic.{sameBytes, packetSize, packetMisfit, allZero, characteristicRules, packetIn};
 
 // 7, of an encrypted wrapper payload or a characteristic packet.
 pub fn judge_length(payload: &[u8]) -> u8
@@ -58,7 +58,7 @@ pub fn decipher(key: [u8; 16], nonce: [u8; 5], payload: &[u8], work: &mut [u8]) 
     aes::apply_ctr(key, packet_nonce, nonce, &payload[4..], work)
 }
 
-// 11, 12 and 13, of the blocks of an encrypted UART message.
+// 11 and 12, of the blocks of an encrypted UART message. Any padding is accepted.
 pub fn judge_text(text: &[u8]) -> u8
     ensures { λ r. ⌜ r ≡ firstBroken (lateRules (now (text .entry))) ⌝ }
 {
@@ -68,10 +68,7 @@ pub fn judge_text(text: &[u8]) -> u8
     if message_misfit(text) {
         return 12;
     }
-    if all_zero(text, 6 + message_size(text)) {
-        return 0;
-    }
-    13
+    0
 }
 
 // Whether 12 applies: the message size is below 2, or the blocks are not the least number that holds the message.

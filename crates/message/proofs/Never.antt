@@ -1,13 +1,13 @@
--- 22 comes of no message: what its form and mode let through has its level's mark. Assumes nothing.
+-- 13 and 22 come of no message: 13 is no number of its rules, and what its form and mode let through has its level's mark. Assumes nothing.
 use mathlib.Core.Path.{_≡_, refl}
-use mathlib.Core.Bool.{Bool, true, not, _||_}
+use mathlib.Core.Bool.{Bool, true, false, not, _||_}
 use mathlib.Core.List.{List, [], _∷_}
 use Prim.Native.Nat.{ℕ, _+_}
 use lib.ListN.{length, getD, drop}
 use lib.Dec.{eqb, ltb}
 use borrow.Author.Tests.{not-false}
 use Rattle.wire.specs.Numbers.{num}
-use Rattle.wire.specs.Rules.{Rule, _when_, firstBroken}
+use Rattle.wire.specs.Rules.{Rule, _when_, firstBroken, numbers, among}
 use Rattle.wire.specs.Fields.{wrongSize, wrongFields}
 use Rattle.wire.proofs.Lookup.{lookup-all, _also_}
 use Rattle.wire.proofs.Held.{held}
@@ -66,6 +66,15 @@ body-never : (b : Body) (f : Form) (mode : Mode) → FormInMode f mode → (d : 
 body-never (fields l make) f mode o d e = never ((17 when (wrongSize (l .size) d || wrongFields l d)) ∷ []) 21 refl e
 body-never packet f mode o d e = packet-never f mode o d e
 
+-- 13
+body-lacks-13 : (b : Body) (f : Form) (mode : Mode) (d : List ℕ) → among 13 (numbers (bodyRules b f mode d)) ≡ false
+body-lacks-13 (fields l make) f mode d = refl
+body-lacks-13 packet f mode d = refl
+
+pub message-lacks-13 : (f : Form) (required : Bool) (mode : Mode) (m : List ℕ) → among 13 (numbers (messageRules f required mode m)) ≡ false
+message-lacks-13 f required mode m = body-lacks-13 (typeOf (num 2 0 m) .body) f mode (drop 2 m)
+
+-- 22
 pub message-never : (f : Form) (required : Bool) (mode : Mode) → FormInMode f mode → (m : List ℕ) → firstBroken (messageRules f required mode m) ≡ 22 → ⊥
 message-never f required mode o m e =
     let r = typeOf (num 2 0 m) in

@@ -9,7 +9,7 @@
 // 4 for a frame the time now
 // 5 for a frame major, minor and wrapper type, a byte each
 // 6 length of the work buffer, which is full of EE
-// 7 key and session nonce under which the payload or packet is enciphered here, from its fifth byte on; = where it is given as it stands
+// 7 key and session nonce under which, with packet nonce 01 02 03, it is enciphered here from its fifth byte on; = where it is given as it stands
 // 8 the payload or packet: packet nonce 01 02 03, key ID or level, and its blocks as they are to be deciphered, right or wrong; or as it stands
 //
 // Bytes are in base 16, with + between two pieces; 00*6 is six times 00. What comes of a case is one line: the label; the content and payload accepted, or

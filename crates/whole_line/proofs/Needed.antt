@@ -24,7 +24,7 @@ use Rattle.session.specs.Keys.{noKey}
 use Rattle.session.specs.declared.Session.{Session}
 use Rattle.session.specs.declared.Keys.{Keys}
 use Rattle.aes.proofs.KeyStream.{length-ctr}
-use Rattle.envelope.specs.Blocks.{outside, Seals, blocksIn, wrongLength, enveloped, notLeast, allZero}
+use Rattle.envelope.specs.Blocks.{outside, Seals, blocksIn, wrongLength, enveloped, notLeast}
 use Rattle.envelope.specs.Sealed.{sealedImage, plainText, lateRules, messageIn}
 use Rattle.envelope.proofs.Unsealed.{sealed-id, sealed-blocks, sealed-whole, unsealed, length-plain}
 use Rattle.bridge.specs.Opener.{adminKey, sessionRules, uartEntryRules, uartText, uartTextRules, plainRules, uartOpenRules, answerOf, opened}
@@ -175,7 +175,7 @@ broken-packet = refl
 
 -- encrypted where plain only. No message of the list gets 22: every command that normal mode permits is marked A
 pub broken-form : got g 159 16 (sealed pn hello) ≡ refusedAnswer 16
-unfolding sessionRules validAt textAnswer uartTextRules lateRules plainText messageIn notLeast allZero
+unfolding sessionRules validAt textAnswer uartTextRules lateRules plainText messageIn notLeast
 broken-form = answered g 159 16 hello (omega arith) (omega arith) 0 refl
 
 -- ---- a session nonce in the list: the session after it is another

@@ -4,7 +4,7 @@ use Prim.Native.Nat.{_-_}
 use native.Mathlib.Omega.{arith}
 use lib.ListN.{length, drop}
 use borrow.Author.Tests.{eq-eqb, ne-eqb}
-use Rattle.envelope.specs.Blocks.{allZero}
+use Rattle.envelope.specs.Characteristic.{allZero}
 use Rattle.envelope.proofs.Bytes.{zero-step, zero-end}
 use Rattle.envelope.proofs.opening.all_zero.Statement.{statement}
 use Rattle.envelope.proofs.opening.all_zero.Tie as tie
