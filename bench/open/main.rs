@@ -74,7 +74,8 @@ fn packet(number: usize, text: &[u8]) -> Packet {
     Packet { bytes, len: payload.len(), blocks: text.len() / 16 }
 }
 
-// Every size from 2 to 490; of each twentieth message also one with another validation, one whose padding, where it has any, is not zero and one with a key ID.
+// Every size from 2 to 490; of each twentieth message also one with another validation, one whose padding, where it has any, is not zero,
+// and one with a key ID.
 fn packets() -> Vec<Packet> {
     let mut list = Vec::new();
     for message in (2..=490).flat_map(messages) {

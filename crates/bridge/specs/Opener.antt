@@ -1,4 +1,4 @@
--- The opener of a frame: document 01, 'Numbers given when something is refused' and the two paragraphs behind the table.
+-- The opener of a frame: document 01, 'Numbers given when something is refused' and the two paragraphs behind the table; no 13 (document 02 §2).
 use Prim.Native.Nat.{ℕ, _+_, _*_}
 use mathlib.Core.Path.{_≡_}
 use mathlib.Core.Bool.{Bool, true, false, not, _||_}

@@ -3,3 +3,4 @@ pub mod Never
 pub mod RoundTrip
 pub mod Assembled
 pub mod Padding
+pub mod PaddingExample

@@ -2,21 +2,23 @@
 use Prim.Native.Nat.{ℕ, zero, suc, _+_, _*_, _≤_}
 use native.Mathlib.Omega.{arith}
 use mathlib.Core.Path.{_≡_, refl, sym, ap, ap₂, _∙_}
-use mathlib.Core.Bool.{true}
+use mathlib.Core.Bool.{true, false}
 use mathlib.Core.Logic.{inr}
-use mathlib.Core.List.{List, _++_}
+use mathlib.Core.List.{List, [], _∷_, _++_}
 use lib.ListN.{length, getD, drop, replicate}
+use lib.Dec.{ltb}
 use borrow.Author.Tests.{le-ltb}
-use Rattle.wire.specs.Rules.{Rule, orElse, firstBroken, verdict, judge}
+use Rattle.wire.specs.Choice.{pick}
+use Rattle.wire.specs.Rules.{Rule, _when_, orElse, firstBroken, verdict, judge}
 use Rattle.wire.specs.Content.{accepted, refused}
 use Rattle.wire.proofs.Rules.{first-append, judge-pass}
 use Rattle.message.specs.Reading.{messageRules, tableContent}
 use Rattle.message.specs.declared.Form.the-variants.{Encrypted}
 use Rattle.aes.specs.Ctr.{blocksFor}
 use Rattle.envelope.specs.Blocks.{blocksIn, wrongLength}
-use Rattle.envelope.specs.Sealed.{unpadded, plainText, sealedWith, lateRules, messageIn}
+use Rattle.envelope.specs.Sealed.{unpadded, plainText, sealedImage, sealedWith, lateRules, messageIn}
 use Rattle.envelope.proofs.Envelopes.{length-enveloped, id-enveloped, deciphered-enveloped}
-use Rattle.envelope.proofs.Unsealed.{length-with, size-with, late-with, message-with, late-is, message-is, sealed-length, sealed-id, unsealed}
+use Rattle.envelope.proofs.Unsealed.{length-with, size-with, late-with, message-with, zeros, zeros-fill}
 use Rattle.bridge.specs.Content.{uartGiven}
 use Rattle.bridge.specs.Opener.{adminKey, headRules, uartEntryRules, uartText, uartTextRules, uartOpenRules, acceptedMessage, answerOf, sessionAfter, opened, workAfter}
 use Rattle.bridge.specs.Opening.{refusedAnswer, blocksAfter}
@@ -24,7 +26,7 @@ use Rattle.bridge.proofs.Contents.{opens-frame}
 use Rattle.bridge.specs.declared.Context.{Context}
 use Rattle.bridge.specs.declared.Answer.{Answer}
 use Rattle.bridge_laws.specs.Accepts.{AcceptsFrame}
-use Rattle.bridge_laws.specs.Padding.{Fills, zeroPadded, paddedWith, contentGiven, OpensAsOurs, PermittedMessage, ComesThrough, AnyPadding}
+use Rattle.bridge_laws.specs.Padding.{Fills, paddedWith, contentGiven, OpensAsOurs, PermittedMessage, ComesThrough, AnyPadding}
 use Rattle.bridge_laws.proofs.Accepts.{rules-clear}
 
 -- a frame is judged before it is deciphered by its length and its fourth byte
@@ -47,136 +49,145 @@ left-by n xs ys t u work = rw (first-append xs ys) (go (firstBroken xs) (firstBr
     go zero (suc k) = refl
     go (suc i) k = refl
 
-module _ (g : Context) (pn m padding : List ℕ) (three-bytes : length pn ≡ 3) (fills : Fills m padding) where
+module _ (g : Context) (pn m : List ℕ) (three-bytes : length pn ≡ 3) where
   abbrev key : List ℕ
   key = adminKey g .bytes
 
   abbrev sn : List ℕ
   sn = g .session .nonce
 
-  abbrev p : List ℕ
-  p = paddedWith g pn m padding
+  -- ---- one padding: what is judged depends on the message alone
+  module _ (padding : List ℕ) (fills : Fills m padding) where
+    abbrev p : List ℕ
+    p = paddedWith g pn m padding
 
-  abbrev q : List ℕ
-  q = zeroPadded g pn m
+    length-padded : length p ≡ 4 + 16 * blocksFor (6 + length m)
+    unfolding sealedWith
+    length-padded = omega (arith, length-enveloped key pn sn 0 (unpadded m ++ padding) three-bytes, length-with m padding fills)
 
-  abbrev text : List ℕ
-  text = unpadded m ++ padding
+    id-padded : getD p 3 0 ≡ 0
+    unfolding sealedWith
+    id-padded = id-enveloped key pn sn 0 (unpadded m ++ padding) three-bytes
 
-  length-padded : length p ≡ 4 + 16 * blocksFor (6 + length m)
-  unfolding sealedWith
-  length-padded = omega (arith, length-enveloped key pn sn 0 text three-bytes, length-with m padding fills)
+    text-padded : uartText g p ≡ unpadded m ++ padding
+    unfolding uartText sealedWith
+    text-padded = deciphered-enveloped key pn sn 0 (unpadded m ++ padding) three-bytes
 
-  same-length : length p ≡ length q
-  same-length = length-padded ∙ sym (sealed-length key pn sn m three-bytes)
+    late-padded : lateRules (uartText g p) ≡ (11 when false) ∷ (12 when ltb (length m) 2) ∷ []
+    late-padded = rw text-padded (late-with m padding fills)
 
-  id-padded : getD p 3 0 ≡ 0
-  unfolding sealedWith
-  id-padded = id-enveloped key pn sn 0 text three-bytes
+    message-padded : messageIn (uartText g p) ≡ pick (ltb (length m) 2) [] m
+    message-padded = rw text-padded (message-with m padding fills)
 
-  text-padded : uartText g p ≡ text
-  unfolding uartText sealedWith
-  text-padded = deciphered-enveloped key pn sn 0 text three-bytes
+  -- ---- two paddings: the same rules, so the same answer
+  module _ (a b : List ℕ) (fills-a : Fills m a) (fills-b : Fills m b) where
+    abbrev pa : List ℕ
+    pa = paddedWith g pn m a
 
-  text-zero : uartText g q ≡ plainText m
-  unfolding uartText
-  text-zero = unsealed key pn sn m three-bytes
+    abbrev pb : List ℕ
+    pb = paddedWith g pn m b
 
-  same-late : lateRules (uartText g p) ≡ lateRules (uartText g q)
-  same-late = rw (text-padded, text-zero) (late-with m padding fills ∙ sym (late-is m))
+    same-length : length pa ≡ length pb
+    same-length = length-padded a fills-a ∙ sym (length-padded b fills-b)
 
-  same-message : messageIn (uartText g p) ≡ messageIn (uartText g q)
-  same-message = rw (text-padded, text-zero) (message-with m padding fills ∙ sym (message-is m))
+    same-message : messageIn (uartText g pa) ≡ messageIn (uartText g pb)
+    same-message = message-padded a fills-a ∙ sym (message-padded b fills-b)
 
-  before : (room : ℕ) → uartEntryRules g room p ≡ uartEntryRules g room q
-  before room = same-entry g room p q same-length (id-padded ∙ sym (sealed-id key pn sn m three-bytes))
+    before : (room : ℕ) → uartEntryRules g room pa ≡ uartEntryRules g room pb
+    before room = same-entry g room pa pb same-length (id-padded a fills-a ∙ sym (id-padded b fills-b))
 
-  behind : uartTextRules g (uartText g p) ≡ uartTextRules g (uartText g q)
-  unfolding uartTextRules
-  behind =
-      ap₂ (λ (xs : List Rule) (l : List ℕ). xs ++ messageRules Encrypted (g .required) (g .mode) l) same-late same-message
+    behind : uartTextRules g (uartText g pa) ≡ uartTextRules g (uartText g pb)
+    unfolding uartTextRules
+    behind =
+        ap₂ (λ (xs : List Rule) (l : List ℕ). xs ++ messageRules Encrypted (g .required) (g .mode) l) (late-padded a fills-a ∙ sym (late-padded b fills-b)) same-message
 
-  same-rules : (room major : ℕ) → uartOpenRules g room major 128 p ≡ uartOpenRules g room major 128 q
-  unfolding uartOpenRules
-  same-rules room major =
-      ap₂ (λ (xs ys : List Rule). headRules major 128 ++ (xs ++ ys)) (before room) behind
+    same-rules : (room major : ℕ) → uartOpenRules g room major 128 pa ≡ uartOpenRules g room major 128 pb
+    unfolding uartOpenRules
+    same-rules room major = ap₂ (λ (xs ys : List Rule). headRules major 128 ++ (xs ++ ys)) (before room) behind
 
-  same-answer : (room major : ℕ) → answerOf g room major 128 p ≡ answerOf g room major 128 q
-  unfolding answerOf
-  same-answer room major =
-      ap₂ (λ (rs : List Rule) (l : List ℕ). judge refusedAnswer rs (acceptedMessage true 6 l)) (same-rules room major) same-message
+    same-answer : (room major : ℕ) → answerOf g room major 128 pa ≡ answerOf g room major 128 pb
+    unfolding answerOf
+    same-answer room major =
+        ap₂ (λ (rs : List Rule) (l : List ℕ). judge refusedAnswer rs (acceptedMessage true 6 l)) (same-rules room major) same-message
 
-  same-content : (major : ℕ) (work : List ℕ) → contentGiven g major p work ≡ contentGiven g major q work
-  same-content major work =
-      opens-frame g major 128 p work refl refl .content
-      ∙ ap₂ (λ (rs : List Rule) (l : List ℕ). judge (λ n. refused (uartGiven n)) rs (accepted (tableContent l))) (same-rules (length work) major) same-message
-      ∙ sym (opens-frame g major 128 q work refl refl .content)
+    same-opened : (room major : ℕ) → opened g room major 128 pa ≡ opened g room major 128 pb
+    unfolding opened
+    same-opened room major = ap (λ (x : Answer). record { answer = x; session = sessionAfter g x }) (same-answer room major)
 
-  -- what ours leaves, by the rules and the length of the padded one
-  left-zero : (major : ℕ) (work : List ℕ)
-      → workAfter g major 128 q work ≡ left (blocksIn p) (headRules major 128 ++ uartEntryRules g (length work) p) (uartTextRules g (uartText g p)) (uartText g q) work
-  unfolding workAfter
-  left-zero major work = rw (before (length work), behind, same-length)
+    same-content : (major : ℕ) (work : List ℕ) → contentGiven g major pa work ≡ contentGiven g major pb work
+    same-content major work =
+        opens-frame g major 128 pa work refl refl .content
+        ∙ ap₂ (λ (rs : List Rule) (l : List ℕ). judge (λ n. refused (uartGiven n)) rs (accepted (tableContent l))) (same-rules (length work) major) same-message
+        ∙ sym (opens-frame g major 128 pb work refl refl .content)
 
-  left-padded : (major : ℕ) (work : List ℕ)
-      → workAfter g major 128 p work
-      ≡ judge (λ n. workAfter g major 128 q work) (uartOpenRules g (length work) major 128 p) (text ++ drop (16 * blocksIn p) work)
-  unfolding workAfter uartOpenRules
-  left-padded major work =
-      let xs = headRules major 128 ++ uartEntryRules g (length work) p in
-      let ys = uartTextRules g (uartText g p) in
-      left-by (blocksIn p) xs ys (uartText g q) (uartText g p) work
-      ∙ rw (sym (left-zero major work), text-padded)
+    -- what the one leaves, by the rules and the length of the other
+    left-other : (major : ℕ) (work : List ℕ)
+        → workAfter g major 128 pb work ≡ left (blocksIn pa) (headRules major 128 ++ uartEntryRules g (length work) pa) (uartTextRules g (uartText g pa)) (uartText g pb) work
+    unfolding workAfter
+    left-other major work = rw (before (length work), behind, same-length)
 
-  opens-as-ours : (major : ℕ) → OpensAsOurs g major pn m padding
-  unfolding opened
-  opens-as-ours major =
+    left-padded : (major : ℕ) (work : List ℕ)
+        → workAfter g major 128 pa work
+        ≡ judge (λ n. workAfter g major 128 pb work) (uartOpenRules g (length work) major 128 pa) ((unpadded m ++ a) ++ drop (16 * blocksIn pa) work)
+    unfolding workAfter uartOpenRules
+    left-padded major work =
+        left-by (blocksIn pa) (headRules major 128 ++ uartEntryRules g (length work) pa) (uartTextRules g (uartText g pa)) (uartText g pb) (uartText g pa) work
+        ∙ rw (sym (left-other major work), text-padded a fills-a)
+
+  -- ---- ours is padded with zeros
+  opens-as-ours : (major : ℕ) (padding : List ℕ) → Fills m padding → OpensAsOurs g major pn m padding
+  unfolding sealedImage plainText sealedWith
+  opens-as-ours major padding fills =
       record {
-        opens = λ room. ap (λ (a : Answer). record { answer = a; session = sessionAfter g a }) (same-answer room major);
-        content = same-content major;
-        leaves = left-padded major;
+        opens = λ room. same-opened padding (zeros m) fills (zeros-fill m) room major;
+        content = same-content padding (zeros m) fills (zeros-fill m) major;
+        leaves = left-padded padding (zeros m) fills (zeros-fill m) major;
       }
 
   -- ---- a message that may come through
-  module _ (ok : PermittedMessage g m) where
-    message-padded : messageIn (uartText g p) ≡ m
-    message-padded = rw (text-padded, message-with m padding fills, le-ltb (length m) 2 (ok .message .typed))
+  module _ (padding : List ℕ) (fills : Fills m padding) (ok : PermittedMessage g m) where
+    abbrev q : List ℕ
+    q = paddedWith g pn m padding
 
-    accepts-padded : (room : ℕ) → 16 * blocksIn p ≤ room → AcceptsFrame g room 1 128 p
+    message-is : messageIn (uartText g q) ≡ m
+    message-is = rw (message-padded padding fills, le-ltb (length m) 2 (ok .message .typed))
+
+    accepts-padded : (room : ℕ) → 16 * blocksIn q ≤ room → AcceptsFrame g room 1 128 q
     accepts-padded room h =
-        let b : blocksIn p ≡ blocksFor (6 + length m) = omega (arith, length-padded) in
+        let l = length-padded padding fills in
+        let b : blocksIn q ≡ blocksFor (6 + length m) = omega (arith, l) in
         record {
           version = refl;
           form = inr refl;
           plain = λ e. absurd (omega arith);
           sealed = λ e. record {
-            blocks = record { some = omega (arith, b); most = omega (arith, b, ok .most); whole = omega (arith, b, length-padded); fits = h };
-            id = id-padded;
+            blocks = record { some = omega (arith, b); most = omega (arith, b, ok .most); whole = omega (arith, b, l); fits = h };
+            id = id-padded padding fills;
             key = ok .key;
             session = ok .session;
             valid = ok .valid;
-            validation = rw text-padded refl;
-            size = rw (text-padded, size-with m padding fills) (ok .message .typed);
-            least = rw (text-padded, size-with m padding fills) (length-with m padding fills);
-            message = rw message-padded (ok .message);
+            validation = rw (text-padded padding fills) refl;
+            size = rw (text-padded padding fills, size-with m padding fills) (ok .message .typed);
+            least = rw (text-padded padding fills, size-with m padding fills) (length-with m padding fills);
+            message = rw message-is (ok .message);
           };
         }
 
-    comes-through : (work : List ℕ) → 16 * blocksIn p ≤ length work → ComesThrough g pn m padding work
+    comes-through : (work : List ℕ) → 16 * blocksIn q ≤ length work → ComesThrough g pn m padding work
     comes-through work h =
-        let rules = uartOpenRules g (length work) 1 128 p in
-        let none = rules-clear g (length work) 1 128 p (accepts-padded (length work) h) in
+        let rules = uartOpenRules g (length work) 1 128 q in
+        let none = rules-clear g (length work) 1 128 q (accepts-padded (length work) h) in
         record {
           content =
-              opens-frame g 1 128 p work refl refl .content
-              ∙ judge-pass (λ n. refused (uartGiven n)) rules (accepted (tableContent (messageIn (uartText g p)))) none
-              ∙ ap (λ (l : List ℕ). accepted (tableContent l)) message-padded;
-          leaves = left-padded 1 work ∙ judge-pass (λ n. workAfter g 1 128 q work) rules (text ++ drop (16 * blocksIn p) work) none;
+              opens-frame g 1 128 q work refl refl .content
+              ∙ judge-pass (λ n. refused (uartGiven n)) rules (accepted (tableContent (messageIn (uartText g q)))) none
+              ∙ ap (λ (l : List ℕ). accepted (tableContent l)) message-is;
+          leaves = left-padded padding padding fills fills 1 work ∙ judge-pass (λ n. workAfter g 1 128 q work) rules ((unpadded m ++ padding) ++ drop (16 * blocksIn q) work) none;
         }
 
 pub any-padding : (g : Context) → AnyPadding g
 any-padding g =
     record {
-      same = λ major pn m padding t f. opens-as-ours g pn m padding t f major;
-      through = λ pn m padding work t f ok h. comes-through g pn m padding t f ok work h;
+      same = λ major pn m padding t f. opens-as-ours g pn m t major padding f;
+      through = λ pn m padding work t f ok h. comes-through g pn m t padding f ok work h;
     }

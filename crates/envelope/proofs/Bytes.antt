@@ -11,8 +11,7 @@ use lib.Seq.{drop-cons, take-suc, take-all}
 use lib.Dec.{eqb}
 use borrow.Author.Tests.{eq-eqb}
 use Rattle.envelope.specs.Blocks.{cleared}
-use Rattle.envelope.specs.Characteristic.{allZero}
-use Rattle.envelope.specs.Characteristic.{sameBytes}
+use Rattle.envelope.specs.Characteristic.{sameBytes, allZero}
 
 -- ---- zeros from a place on: one byte, and the end
 pub zero-step : (s : List ℕ) (i : ℕ) → i < length s → allZero (drop i s) ≡ eqb (getD s i 0) 0 && allZero (drop (i + 1) s)

@@ -66,31 +66,24 @@ module _ (m padding : List ℕ) (fills : length padding ≡ paddingFor (unpadded
 
 -- ours
 module _ (m : List ℕ) where
-  abbrev zeros : List ℕ
+  abbrev pub zeros : List ℕ
   zeros = replicate (paddingFor (unpadded m)) 0
 
-  zeros-fill : length zeros ≡ paddingFor (unpadded m)
+  pub zeros-fill : length zeros ≡ paddingFor (unpadded m)
   zeros-fill = length-replicate {A = ℕ} (paddingFor (unpadded m)) 0
 
   pub length-plain : length (plainText m) ≡ 16 * blocksFor (6 + length m)
   unfolding plainText
   length-plain = length-with m zeros zeros-fill
 
-  pub late-is : lateRules (plainText m) ≡ (11 when false) ∷ (12 when ltb (length m) 2) ∷ []
-  unfolding plainText
-  late-is = late-with m zeros zeros-fill
-
   by-size : take (messageSize (plainText m)) (drop 6 (plainText m)) ≡ m
   unfolding plainText
   by-size = by-size-with m zeros zeros-fill
 
-  pub message-is : messageIn (plainText m) ≡ pick (ltb (length m) 2) [] m
-  unfolding plainText
-  message-is = message-with m zeros zeros-fill
-
   -- neither 11 nor 12
   pub late-plain : 2 ≤ length m → firstBroken (lateRules (plainText m)) ≡ 0
-  late-plain h = rw (late-is, le-ltb (length m) 2 h)
+  unfolding plainText
+  late-plain h = rw (late-with m zeros zeros-fill, le-ltb (length m) 2 h)
 
   -- the message, with anything behind the text
   pub message-behind : (rest : List ℕ) → take (length m) (drop 6 (plainText m ++ rest)) ≡ m
@@ -98,7 +91,8 @@ module _ (m : List ℕ) where
   message-behind rest = rw (append-assoc m) (take-at m _ (length m) refl)
 
   pub message-plain : 2 ≤ length m → messageIn (plainText m) ≡ m
-  message-plain h = rw (message-is, le-ltb (length m) 2 h)
+  unfolding plainText
+  message-plain h = rw (message-with m zeros zeros-fill, le-ltb (length m) 2 h)
 
 -- where neither 11 nor 12 is given, the blocks hold the message
 pub record Holds (text : List ℕ) : Type 0 where

@@ -66,18 +66,17 @@ body-never : (b : Body) (f : Form) (mode : Mode) → FormInMode f mode → (d : 
 body-never (fields l make) f mode o d e = never ((17 when (wrongSize (l .size) d || wrongFields l d)) ∷ []) 21 refl e
 body-never packet f mode o d e = packet-never f mode o d e
 
--- 13
-body-lacks-13 : (b : Body) (f : Form) (mode : Mode) (d : List ℕ) → among 13 (numbers (bodyRules b f mode d)) ≡ false
-body-lacks-13 (fields l make) f mode d = refl
-body-lacks-13 packet f mode d = refl
-
-pub message-lacks-13 : (f : Form) (required : Bool) (mode : Mode) (m : List ℕ) → among 13 (numbers (messageRules f required mode m)) ≡ false
-message-lacks-13 f required mode m = body-lacks-13 (typeOf (num 2 0 m) .body) f mode (drop 2 m)
-
--- 22
 pub message-never : (f : Form) (required : Bool) (mode : Mode) → FormInMode f mode → (m : List ℕ) → firstBroken (messageRules f required mode m) ≡ 22 → ⊥
 message-never f required mode o m e =
     let r = typeOf (num 2 0 m) in
     let xs : List Rule =
     (14 when (ltb (length m) 2 || not (r .listed))) ∷ (15 when plainWhereRequired (r .allowed) f required) ∷ (16 when encryptedWherePlainOnly (r .allowed) f) ∷ [] in
     body-never (r .body) f mode o (drop 2 m) (past-first xs (bodyRules (r .body) f mode (drop 2 m)) 21 refl e .1)
+
+-- ---- 13 is no number of theirs
+body-lacks-13 : (b : Body) (f : Form) (mode : Mode) (d : List ℕ) → among 13 (numbers (bodyRules b f mode d)) ≡ false
+body-lacks-13 (fields l make) f mode d = refl
+body-lacks-13 packet f mode d = refl
+
+pub message-lacks-13 : (f : Form) (required : Bool) (mode : Mode) (m : List ℕ) → among 13 (numbers (messageRules f required mode m)) ≡ false
+message-lacks-13 f required mode m = body-lacks-13 (typeOf (num 2 0 m) .body) f mode (drop 2 m)
