@@ -1,39 +1,75 @@
--- The printed box is the defined one at all 256 bytes, and the definition's inverse is one: a single computed test. Assumes nothing.
-use mathlib.Core.Path.{_≡_}
+-- The printed boxes are the defined ones at all 256 bytes, the definition's inverse and the affine step's are inverses, and each box undoes the other:
+-- tests that are computed entry by entry. Assumes nothing.
+use mathlib.Core.Path.{_≡_, _∙_, sym, ap}
 use mathlib.Core.Bool.{Bool, true, false, _&&_}
+use mathlib.Core.List.{List}
 use Prim.Native.Nat.{ℕ, zero, suc, _<_}
 use lib.Dec.{T, eqb, eqb→eq}
-use lib.ListN.{getD}
+use lib.ListN.{length, getD}
 use Rattle.wire.proofs.Table.{at, every}
 use Rattle.aes.specs.Field.{xtime, times, _•_}
-use Rattle.aes.specs.Box.{powers, inverse, turned, affine, subByte, printedBox}
+use Rattle.aes.specs.Box.{powers, inverse, turned, affine, subByte, printedBox, invAffine, invSubByte, printedInvBox}
+use Rattle.aes.proofs.Bytes.{sub-byte, inv-sub-byte}
+
+both : (a b : Bool) → T (a && b) → T a × T b
+both true b t = (tt, t)
+both false b t = absurd t
+
+-- ---- a box of two steps
+module _ (first second : ℕ → ℕ) (check : ℕ → ℕ → ℕ) (value : ℕ → ℕ) where
+  -- entry x at k is both steps of k, and the first step passes a check
+  right : ℕ → ℕ → Bool
+  right k x = let i : ℕ = first k in eqb x (second i) && eqb (check k i) (value k)
+
+  entry : (box : List ℕ) → T (every right 0 box) → (k : ℕ) → k < length box → (getD box k 0 ≡ second (first k)) × (check k (first k) ≡ value k)
+  unfolding right
+  entry box tested k h =
+      let x : ℕ = getD box k 0 in
+      let c : ℕ = check k (first k) in
+      let t : T (eqb x (second (first k))) × T (eqb c (value k)) = both (eqb x (second (first k))) (eqb c (value k)) (at right box tested k h) in
+      (eqb→eq x (second (first k)) (t .0), eqb→eq c (value k) (t .1))
 
 -- 1, and 0 for 0, which has no inverse
 abbrev pub one : ℕ → ℕ
 one zero = 0
 one (suc a) = 1
 
--- the box at k is x, by an inverse of k
-right : ℕ → ℕ → Bool
-right k x = let i : ℕ = inverse k in eqb x (affine i) && eqb (k • i) (one k)
-
-tested : T (every right 0 printedBox)
-unfolding right printedBox affine turned inverse powers _•_ times xtime
-tested = tt
-
-both : (a b : Bool) → T (a && b) → T a × T b
-both true b t = (tt, t)
-both false b t = absurd t
-
 at-byte : (k : ℕ) → k < 256 → (getD printedBox k 0 ≡ subByte k) × (k • inverse k ≡ one k)
-unfolding right printedBox subByte
-at-byte k h =
-    let x : ℕ = getD printedBox k 0 in
-    let t : T (eqb x (subByte k)) × T (eqb (k • inverse k) (one k)) = both (eqb x (subByte k)) (eqb (k • inverse k) (one k)) (at right printedBox tested k h) in
-    (eqb→eq x (subByte k) (t .0), eqb→eq (k • inverse k) (one k) (t .1))
+unfolding right printedBox subByte affine turned inverse powers _•_ times xtime
+at-byte = entry inverse affine (λ k i. k • i) one printedBox tt
+
+inv-at-byte : (k : ℕ) → k < 256 → (getD printedInvBox k 0 ≡ invSubByte k) × (affine (invAffine k) ≡ k)
+unfolding right printedInvBox invSubByte invAffine affine turned inverse powers _•_ times xtime
+inv-at-byte = entry invAffine inverse (λ k a. affine a) (λ k. k) printedInvBox tt
 
 pub box-is : (k : ℕ) → k < 256 → getD printedBox k 0 ≡ subByte k
 box-is k h = at-byte k h .0
 
 pub inverse-is : (k : ℕ) → k < 256 → k • inverse k ≡ one k
 inverse-is k h = at-byte k h .1
+
+pub inv-box-is : (k : ℕ) → k < 256 → getD printedInvBox k 0 ≡ invSubByte k
+inv-box-is k h = inv-at-byte k h .0
+
+pub affine-is : (k : ℕ) → k < 256 → affine (invAffine k) ≡ k
+affine-is k h = inv-at-byte k h .1
+
+-- ---- one box behind another
+module _ (box other : List ℕ) where
+  -- entry x at k: the other box has k at x
+  back : ℕ → ℕ → Bool
+  back k x = eqb (getD other x 0) k
+
+  undone : (f g : ℕ → ℕ) → ((k : ℕ) → k < length box → getD box k 0 ≡ f k) → ((k : ℕ) → k < length box → getD other (f k) 0 ≡ g (f k))
+      → T (every back 0 box) → (k : ℕ) → k < length box → g (f k) ≡ k
+  unfolding back
+  undone f g is other-is tested k h =
+      sym (other-is k h) ∙ ap (λ (x : ℕ). getD other x 0) (sym (is k h)) ∙ eqb→eq (getD other (getD box k 0) 0) k (at back box tested k h)
+
+pub inv-sub : (b : ℕ) → b < 256 → invSubByte (subByte b) ≡ b
+unfolding back printedBox printedInvBox
+inv-sub = undone printedBox printedInvBox subByte invSubByte box-is (λ k h. inv-box-is (subByte k) (sub-byte k)) tt
+
+pub sub-inv : (b : ℕ) → b < 256 → subByte (invSubByte b) ≡ b
+unfolding back printedBox printedInvBox
+sub-inv = undone printedInvBox printedBox invSubByte subByte inv-box-is (λ k h. box-is (invSubByte k) (inv-sub-byte k)) tt

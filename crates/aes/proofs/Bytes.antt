@@ -6,8 +6,9 @@ use lib.Bits.{xor-lt}
 use lib.Dec.{lit<}
 use lib.ListN.{getD}
 use Rattle.aes.specs.Field.{_⊕_, xtime, digitTimes, times, _•_}
-use Rattle.aes.specs.Box.{powers, inverse, turned, affine, subByte}
-use Rattle.aes.specs.Cipher.{four, rows, ofState, word, xorWord, rotWord, subWord, chained, rcon, nextKey, roundKey}
+use Rattle.aes.specs.Box.{powers, inverse, turned, affine, subByte, invAffine, invSubByte}
+use Rattle.aes.specs.Cipher.{four, rows, cell, ofState, mixed, word, xorWord, rotWord, subWord, chained, rcon, nextKey, roundKey, from, keyExpansion}
+use Rattle.aes.specs.InvCipher.{invMixed}
 
 -- every element is a byte
 abbrev pub Bytes : List ℕ → Type 0
@@ -62,18 +63,39 @@ affine-byte b h =
     turn-1 : (b : ℕ) → b < 256 → b % 128 * 2 + b / 128 < 256
     turn-1 b h = omega arith
 
--- whatever is substituted
+-- whatever is substituted, and back
 pub sub-byte : (b : ℕ) → subByte b < 256
 unfolding subByte inverse
 sub-byte b = affine-byte (powers 7 b) (powers-byte 7 b)
 
+pub inv-sub-byte : (b : ℕ) → invSubByte b < 256
+unfolding invSubByte inverse
+inv-sub-byte b = powers-byte 7 (invAffine b)
+
+-- a column's byte, mixed and back
+pub mixed-byte : (a b c d : ℕ) → a < 256 → b < 256 → c < 256 → d < 256 → mixed a b c d < 256
+unfolding mixed
+mixed-byte a b c d ha hb hc hd = xor-byte (xor-byte (xor-byte (mul-byte 2 a ha) (mul-byte 3 b hb)) hc) hd
+
+pub inv-mixed-byte : (a b c d : ℕ) → a < 256 → b < 256 → c < 256 → d < 256 → invMixed a b c d < 256
+unfolding invMixed
+inv-mixed-byte a b c d ha hb hc hd =
+    xor-byte (xor-byte (xor-byte (mul-byte 0x0e a ha) (mul-byte 0x0b b hb)) (mul-byte 0x0d c hc)) (mul-byte 0x09 d hd)
+
 -- ---- lists of bytes
+-- what holds of f 0 .. f 3, and of what stands for an element past the end
+four-all : {A : Type 0} (P : A → Type 0) (f : ℕ → A) (d : A) → P d → ((i : ℕ) → P (f i)) → (i : ℕ) → P (getD (four f) i d)
+four-all P f d p h zero = h 0
+four-all P f d p h (suc zero) = h 1
+four-all P f d p h (suc (suc zero)) = h 2
+four-all P f d p h (suc (suc (suc zero))) = h 3
+four-all P f d p h (suc (suc (suc (suc i)))) = p
+
 four-bytes : (f : ℕ → ℕ) → ((i : ℕ) → f i < 256) → Bytes (four f)
-four-bytes f h zero = h 0
-four-bytes f h (suc zero) = h 1
-four-bytes f h (suc (suc zero)) = h 2
-four-bytes f h (suc (suc (suc zero))) = h 3
-four-bytes f h (suc (suc (suc (suc i)))) = lit< tt
+four-bytes f h = four-all (λ (b : ℕ). b < 256) f 0 (lit< tt) h
+
+pub rows-bytes : (f : ℕ → ℕ → ℕ) → ((r c : ℕ) → f r c < 256) → (r c : ℕ) → cell (rows f) r c < 256
+rows-bytes f h = four-all Bytes (λ r. four (λ c. f r c)) [] (λ c. lit< tt) (λ r. four-bytes (λ c. f r c) (h r))
 
 append-bytes : (a b : List ℕ) → Bytes a → Bytes b → Bytes (a ++ b)
 append-bytes [] b ha hb i = hb i
@@ -126,3 +148,14 @@ pub key-bytes : (key : List ℕ) → Bytes key → (n : ℕ) → Bytes (roundKey
 unfolding roundKey
 key-bytes key h zero = h
 key-bytes key h (suc n) = next-bytes (rcon n) (roundKey key n) (rcon-byte n) (key-bytes key h n)
+
+-- all eleven, and what stands for one past the end
+expansion-from : (key : List ℕ) → Bytes key → (n i j : ℕ) → Bytes (getD (from (roundKey key) i n) j [])
+unfolding from
+expansion-from key h zero i j = λ c. lit< tt
+expansion-from key h (suc n) i zero = key-bytes key h i
+expansion-from key h (suc n) i (suc j) = expansion-from key h n (suc i) j
+
+pub expansion-bytes : (key : List ℕ) → Bytes key → (j : ℕ) → Bytes (getD (keyExpansion key) j [])
+unfolding keyExpansion
+expansion-bytes key h = expansion-from key h 11 0

@@ -1,4 +1,5 @@
 mod Examples
+pub mod Mixing
 pub mod Linear
 pub mod Bytes
 pub mod Box
@@ -6,4 +7,6 @@ pub mod Cells
 pub mod Filled
 pub mod Turns
 pub mod Cipher
+pub mod Undoing
+pub mod Inverse
 pub mod KeyStream

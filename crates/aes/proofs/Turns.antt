@@ -1,11 +1,13 @@
--- One round more, one round key more and one round constant more, counted as the code counts. Assumes nothing.
+-- One round more, one round key more, one round constant more, one digit and one inverse round less, counted as the code counts. Assumes nothing.
 use mathlib.Core.Path.{_≡_}
 use mathlib.Core.List.{List, []}
-use Prim.Native.Nat.{ℕ, _+_}
-use native.Mathlib.Numerals.{add-one}
+use Prim.Native.Nat.{ℕ, zero, suc, _+_, _-_, _/_, _%_, _<_}
+use native.Mathlib.Nat.{not-suc-le-zero}
+use native.Mathlib.Numerals.{add-one, sub-one}
 use lib.ListN.{getD}
-use Rattle.aes.specs.Field.{xtime}
+use Rattle.aes.specs.Field.{_⊕_, xtime, digitTimes, times}
 use Rattle.aes.specs.Cipher.{round, rounds, roundKey, rcon, nextKey}
+use Rattle.aes.specs.InvCipher.{invRound, invRounds}
 
 pub rounds-more : (keys s : List (List ℕ)) (i : ℕ) → rounds keys s (i + 1) ≡ round (getD keys (i + 1) []) (rounds keys s i)
 unfolding rounds
@@ -18,3 +20,13 @@ key-more key i = rw add-one
 pub rcon-more : (i : ℕ) → rcon (i + 1) ≡ xtime (rcon i)
 unfolding rcon
 rcon-more i = rw add-one
+
+pub times-step : (n k a : ℕ) → 0 < n → times n k a ≡ digitTimes (k % 2) a ⊕ times (n - 1) (k / 2) (xtime a)
+unfolding times
+times-step zero k a h = absurd (not-suc-le-zero h)
+times-step (suc n) k a h = rw sub-one
+
+pub inv-rounds-step : (keys s : List (List ℕ)) (n : ℕ) → 0 < n → invRounds keys s n ≡ invRounds keys (invRound (getD keys n []) s) (n - 1)
+unfolding invRounds
+inv-rounds-step keys s zero h = absurd (not-suc-le-zero h)
+inv-rounds-step keys s (suc n) h = rw sub-one

@@ -39,8 +39,12 @@ shiftRows s = rows (λ r c. cell s r ((c + r) % 4))
 unfoldable pub mixed : ℕ → ℕ → ℕ → ℕ → ℕ
 mixed a b c d = 2 • a ⊕ 3 • b ⊕ c ⊕ d
 
+-- each byte of each column so
+abbrev pub columns : (ℕ → ℕ → ℕ → ℕ → ℕ) → List (List ℕ) → List (List ℕ)
+columns f s = rows (λ r c. f (cell s r c) (cell s ((r + 1) % 4) c) (cell s ((r + 2) % 4) c) (cell s ((r + 3) % 4) c))
+
 abbrev pub mixColumns : List (List ℕ) → List (List ℕ)
-mixColumns s = rows (λ r c. mixed (cell s r c) (cell s ((r + 1) % 4) c) (cell s ((r + 2) % 4) c) (cell s ((r + 3) % 4) c))
+mixColumns s = columns mixed s
 
 -- section 5.1.4
 abbrev pub addRoundKey : List ℕ → List (List ℕ) → List (List ℕ)

@@ -1,4 +1,5 @@
 pub mod Field
 pub mod Box
 pub mod Cipher
+pub mod InvCipher
 pub mod Ctr

@@ -3,15 +3,21 @@
 // The box is a table that is made once a call and lent to what substitutes bytes. What takes it asks that it
 // is the box, so it is private to this file and the modules below it: no public function takes the table.
 mod ctr;
+mod field;
+mod inv_cipher;
 mod steps;
 
 pub use ctr::apply_ctr;
+use field::xtime;
+pub use inv_cipher::decrypt_block;
+pub use inv_cipher::inv_mix_columns;
+pub use inv_cipher::inv_shift_rows;
+pub use inv_cipher::inv_sub_bytes;
 pub use steps::add_round_key;
 pub use steps::mix_columns;
 pub use steps::of_state;
 pub use steps::shift_rows;
 pub use steps::to_state;
-use steps::xtime;
 ghost use mathlib.Core.Path.{_≡_};
 ghost use Rattle.aes.specs.Box.{subByte, printedBox};
 ghost use Rattle.aes.specs.Cipher.{subBytes, subWord, chained, nextKey, keyExpansion, round as roundOf, cipherUnder};

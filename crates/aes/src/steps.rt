@@ -1,7 +1,7 @@
 // The state, and the steps of a round that take no box: FIPS 197, sections 3.4 and 5.1.2 to 5.1.4.
+use super::field::xtime;
 ghost use mathlib.Core.Path.{_≡_};
 ghost use lib.ListN.{getD};
-ghost use Rattle.aes.specs.Field.{xtime as xtimeOf};
 ghost use Rattle.aes.specs.Cipher.{four, toState, ofState, shiftRows, mixed, mixColumns, addRoundKey};
 
 // A block as four rows, filled column by column.
@@ -57,13 +57,6 @@ pub fn shift_rows(s: [[u8; 4]; 4]) -> [[u8; 4]; 4]
         [c[2], c[3], c[0], c[1]],
         [d[3], d[0], d[1], d[2]],
     ]
-}
-
-// A byte times x in the field.
-pub fn xtime(b: u8) -> u8
-    ensures { λ r. ⌜ r ≡ xtimeOf b ⌝ }
-{
-    (b % 128 * 2) ^ (b / 128 * 0x1b)
 }
 
 // One byte of a mixed column, from the column's bytes from there on.

@@ -1,12 +1,12 @@
--- `aes::steps::xtime` meets its contract. Assumes nothing.
+-- `aes::field::xtime` meets its contract. Assumes nothing.
 use mathlib.Core.Path.{_≡_, ap₂}
 use Prim.Native.Nat.{ℕ, _*_, _/_, _%_, _<_}
 use native.Mathlib.Omega.{arith}
 use borrow.Author.Needs.{needs}
 use lib.Bits.{bitXor}
 use Rattle.aes.specs.Field.{xtime}
-use Rattle.aes.proofs.steps.xtime.Statement.{statement}
-use Rattle.aes.proofs.steps.xtime.Tie as tie
+use Rattle.aes.proofs.field.xtime.Statement.{statement}
+use Rattle.aes.proofs.field.xtime.Tie as tie
 
 same : (b : ℕ) → b % 128 * 2 ≡ b * 2 % 256
 same b = omega arith

@@ -1,0 +1,133 @@
+// The inverse cipher: FIPS 197, section 5.3. Its box is worked out and not a table: a block of session data is all that is deciphered so.
+use super::field::inverse;
+use super::field::product;
+use super::steps::add_round_key;
+use super::steps::of_state;
+use super::steps::to_state;
+ghost use mathlib.Core.Path.{_≡_};
+ghost use lib.ListN.{getD};
+ghost use Rattle.aes.specs.Field.{_⊕_, _•_};
+ghost use Rattle.aes.specs.Box.{invAffine, invSubByte};
+ghost use Rattle.aes.specs.Cipher.{four};
+ghost use Rattle.aes.specs.InvCipher.{invShiftRows, invSubBytes, invMixed, invMixColumns, invRound, invCipherUnder};
+
+pub fn inv_shift_rows(s: [[u8; 4]; 4]) -> [[u8; 4]; 4]
+    ensures { λ r. ⌜ r ≡ invShiftRows s ⌝ }
+{
+    let a = s[0];
+    let b = s[1];
+    let c = s[2];
+    let d = s[3];
+    [
+        [a[0], a[1], a[2], a[3]],
+        [b[3], b[0], b[1], b[2]],
+        [c[2], c[3], c[0], c[1]],
+        [d[1], d[2], d[3], d[0]],
+    ]
+}
+
+// The affine step undone.
+fn inv_affine(b: u8) -> u8
+    ensures { λ r. ⌜ r ≡ invAffine b ⌝ }
+{
+    (b % 4 * 64 + b / 4) ^ (b % 32 * 8 + b / 32) ^ (b % 128 * 2 + b / 128) ^ 0x05
+}
+
+fn inv_sub_byte(b: u8) -> u8
+    ensures { λ r. ⌜ r ≡ invSubByte b ⌝ }
+{
+    inverse(inv_affine(b))
+}
+
+fn inv_sub_row(a: [u8; 4]) -> [u8; 4]
+    ensures { λ r. ⌜ r ≡ four (λ c. invSubByte (getD a c 0)) ⌝ }
+{
+    [
+        inv_sub_byte(a[0]),
+        inv_sub_byte(a[1]),
+        inv_sub_byte(a[2]),
+        inv_sub_byte(a[3]),
+    ]
+}
+
+pub fn inv_sub_bytes(s: [[u8; 4]; 4]) -> [[u8; 4]; 4]
+    ensures { λ r. ⌜ r ≡ invSubBytes s ⌝ }
+{
+    [
+        inv_sub_row(s[0]),
+        inv_sub_row(s[1]),
+        inv_sub_row(s[2]),
+        inv_sub_row(s[3]),
+    ]
+}
+
+// A row times a byte.
+fn row_times(k: u8, a: [u8; 4]) -> [u8; 4]
+    ensures { λ r. ⌜ r ≡ four (λ c. k • getD a c 0) ⌝ }
+{
+    [
+        product(k, a[0]),
+        product(k, a[1]),
+        product(k, a[2]),
+        product(k, a[3]),
+    ]
+}
+
+// The sum of four rows.
+fn add_rows(a: [u8; 4], b: [u8; 4], c: [u8; 4], d: [u8; 4]) -> [u8; 4]
+    ensures { λ r. ⌜ r ≡ four (λ i. getD a i 0 ⊕ getD b i 0 ⊕ getD c i 0 ⊕ getD d i 0) ⌝ }
+{
+    [
+        a[0] ^ b[0] ^ c[0] ^ d[0],
+        a[1] ^ b[1] ^ c[1] ^ d[1],
+        a[2] ^ b[2] ^ c[2] ^ d[2],
+        a[3] ^ b[3] ^ c[3] ^ d[3],
+    ]
+}
+
+// One row of the columns mixed back, from the rows from there on.
+fn inv_mix_row(a: [u8; 4], b: [u8; 4], c: [u8; 4], d: [u8; 4]) -> [u8; 4]
+    ensures { λ r. ⌜ r ≡ four (λ i. invMixed (getD a i 0) (getD b i 0) (getD c i 0) (getD d i 0)) ⌝ }
+{
+    add_rows(
+        row_times(0x0e, a),
+        row_times(0x0b, b),
+        row_times(0x0d, c),
+        row_times(0x09, d),
+    )
+}
+
+pub fn inv_mix_columns(s: [[u8; 4]; 4]) -> [[u8; 4]; 4]
+    ensures { λ r. ⌜ r ≡ invMixColumns s ⌝ }
+{
+    let a = s[0];
+    let b = s[1];
+    let c = s[2];
+    let d = s[3];
+    [
+        inv_mix_row(a, b, c, d),
+        inv_mix_row(b, c, d, a),
+        inv_mix_row(c, d, a, b),
+        inv_mix_row(d, a, b, c),
+    ]
+}
+
+fn inv_round(s: [[u8; 4]; 4], k: [u8; 16]) -> [[u8; 4]; 4]
+    ensures { λ r. ⌜ r ≡ invRound k s ⌝ }
+{
+    inv_mix_columns(add_round_key(inv_sub_bytes(inv_shift_rows(s)), k))
+}
+
+// A block deciphered under round keys.
+pub fn decrypt_block(keys: &[[u8; 16]; 11], block: [u8; 16]) -> [u8; 16]
+    ensures { λ r. ⌜ r ≡ invCipherUnder (now (keys .entry)) block ⌝ }
+{
+    let mut s = add_round_key(to_state(block), keys[10]);
+    let mut i: usize = 9;
+    while 0 < i {
+        let n = inv_round(s, keys[i]);
+        s = n;
+        i -= 1;
+    }
+    of_state(add_round_key(inv_sub_bytes(inv_shift_rows(s)), keys[0]))
+}
