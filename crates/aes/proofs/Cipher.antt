@@ -6,6 +6,7 @@ use lib.ListN.{length, getD}
 use Rattle.aes.specs.Field.{_⊕_}
 use Rattle.aes.specs.Box.{subByte}
 use Rattle.aes.specs.Cipher.{cell, toState, addRoundKey, rounds, from, roundKey, keyExpansion, cipherUnder, cipher}
+use Rattle.aes.specs.InvCipher.{invCipherUnder, invCipher}
 use Rattle.aes.proofs.Bytes.{Bytes, xor-byte, sub-byte, state-bytes, key-bytes}
 
 -- under the key's round keys
@@ -13,10 +14,18 @@ pub cipher-is : (k b : List ℕ) → cipher k b ≡ cipherUnder (keyExpansion k)
 unfolding cipher
 cipher-is k b = refl
 
+pub inv-cipher-is : (k b : List ℕ) → invCipher k b ≡ invCipherUnder (keyExpansion k) b
+unfolding invCipher
+inv-cipher-is k b = refl
+
 -- whatever the key and the block
 pub length-cipher : (k b : List ℕ) → length (cipher k b) ≡ 16
 unfolding cipher cipherUnder
 length-cipher k b = refl
+
+pub length-inv-cipher : (k b : List ℕ) → length (invCipher k b) ≡ 16
+unfolding invCipher invCipherUnder
+length-inv-cipher k b = refl
 
 -- under a key of bytes, whatever the block
 pub cipher-byte : (k b : List ℕ) → Bytes k → Bytes (cipher k b)

@@ -27,3 +27,7 @@ wholeMinutes t = record { 0 = t .0 / 60 }
 
 abbrev pub noConnection : Connection
 noConnection = record { held = false; nonce = replicate 5 0; validation = replicate 4 0 }
+
+-- after accepted session data (document 02 §3): session nonce and validation key
+abbrev pub withData : Connection → List ℕ → List ℕ → Connection
+withData c nonce validation = record { held = true; nonce = nonce; validation = validation }

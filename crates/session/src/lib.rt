@@ -5,7 +5,7 @@ use access::Mode;
 use units::Minutes;
 use units::Seconds;
 ghost use mathlib.Core.Path.{_≡_};
-ghost use Rattle.session.specs.Session.{noSession, withNonce, wholeMinutes, validAt, noConnection};
+ghost use Rattle.session.specs.Session.{noSession, withNonce, wholeMinutes, validAt, noConnection, withData};
 ghost use Rattle.session.specs.Keys.{noKey, keyFor, keyForNumber};
 
 // The user's session: held is false where there is none.
@@ -92,6 +92,17 @@ impl Connection {
             held: false,
             nonce: [0; 5],
             validation: [0; 4],
+        }
+    }
+
+    // The connection session after session data is accepted.
+    pub fn with_data(self, nonce: [u8; 5], validation: [u8; 4]) -> Connection
+        ensures { λ r. ⌜ r ≡ withData self nonce validation ⌝ }
+    {
+        Connection {
+            held: true,
+            nonce: nonce,
+            validation: validation,
         }
     }
 }

@@ -1,0 +1,25 @@
+-- `session_data::read_text` meets its contract. Assumes nothing.
+use mathlib.Core.Path.{_∙_, sym, ap}
+use Rattle.session.specs.declared.Connection.{Connection}
+use Rattle.session_data.specs.SessionData.{textRules}
+use Rattle.session_data.specs.declared.DataRead.{DataRead}
+use Rattle.session_data.specs.declared.DataAnswer.the-variants.{Accepted}
+use Rattle.session_data.proofs.Judging.{judged-refused, judged-accepted}
+use borrow.Author.Needs.{needs}
+use Rattle.session_data.proofs.read_text.Statement.{statement}
+use Rattle.session_data.proofs.read_text.Tie as tie
+
+returns : tie.Need-returns
+returns c =
+    let a = c .before .before .before .args in
+    judged-refused (textRules (a .t2)) (a .old) (a .t2) (c .before .judge-text .result) (c .before .judge-text .ensures) (c .if1 .taken)
+
+returns-2 : tie.Need-returns-2
+returns-2 c =
+    let j = c .before .before in
+    let a = j .before .before .args in
+    ap {B = DataRead} (λ (after : Connection). record { answer = Accepted; connection = after }) (c .connect .ensures)
+    ∙ judged-accepted (textRules (a .t2)) (a .old) (a .t2) (sym (c .before .if1 .left) ∙ j .judge-text .ensures)
+
+pub read-text-spec : {M : Type 1} → statement M
+read-text-spec = tie.close (tie.spec (λ c. search needs) (λ c κs. search needs) returns (λ c κs. search needs) returns-2)
