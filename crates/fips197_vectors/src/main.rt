@@ -1,10 +1,11 @@
 // Runs the AES-128 vectors of FIPS 197 through the crate `aes`: prints how many values passed, and each that differs. A group of standard
-// input is its name, what its values are, the key, the input, and on each line a value behind its name; a group without input lists round keys.
+// input is its name, what its values are (which says what is run), the key, the input, and on each line a value behind its name; a group of
+// round keys has no input.
 use libc::STDIN_FILENO;
 use libc::STDOUT_FILENO;
 use text::reading;
 use wire::Part;
-ghost use Prim.Native.Nat.{_≤_, _<_};
+ghost use Prim.Native.Nat.{_+_, _≤_, _<_};
 ghost use lib.ListN.{length};
 
 // A line of a group.
@@ -48,10 +49,20 @@ fn passed(group: &[u8], got: &[[u8; 16]]) -> usize
     n
 }
 
+// The five values of a round, stored from a place on.
+fn store(all: &mut [[u8; 16]], at: usize, round: [[u8; 16]; 5])
+    requires { ⌜ at + 5 ≤ length (now all) ⌝ }
+{
+    let mut i: usize = 0;
+    while i < 5 {
+        all[at + i] = round[i];
+        i += 1;
+    }
+}
+
 // For each round the state at its start, after SubBytes, after ShiftRows and after MixColumns, and the round key.
 // Round 10 has no MixColumns: the last two places are its round key and the block enciphered.
-fn values(key: [u8; 16], input: [u8; 16]) -> [[u8; 16]; 50] {
-    let keys = aes::expand_key(key);
+fn values(keys: &[[u8; 16]; 11], input: [u8; 16]) -> [[u8; 16]; 50] {
     let mut all = [input; 50];
     let mut s = aes::add_round_key(aes::to_state(input), keys[0]);
     let mut r: usize = 0;
@@ -60,23 +71,49 @@ fn values(key: [u8; 16], input: [u8; 16]) -> [[u8; 16]; 50] {
         let boxed = aes::sub_bytes(s);
         let shifted = aes::shift_rows(boxed);
         let mixed = aes::mix_columns(shifted);
-        let at = 5 * r;
-        let start = aes::of_state(s);
-        all[at] = start;
-        let after_box = aes::of_state(boxed);
-        all[at + 1] = after_box;
-        let after_shift = aes::of_state(shifted);
-        all[at + 2] = after_shift;
-        let after_mix = aes::of_state(mixed);
-        all[at + 3] = after_mix;
-        all[at + 4] = k;
+        let round = [
+            aes::of_state(s),
+            aes::of_state(boxed),
+            aes::of_state(shifted),
+            aes::of_state(mixed),
+            k,
+        ];
+        store(&mut all, 5 * r, round);
         let next = aes::add_round_key(mixed, k);
         s = next;
         r += 1;
     }
     all[48] = keys[10];
-    let output = aes::encrypt_block(&keys, input);
+    let output = aes::encrypt_block(keys, input);
     all[49] = output;
+    all
+}
+
+// The round key before round 1, then for each round the state at its start, after InvShiftRows and after InvSubBytes, the round key,
+// and the state after AddRoundKey. The last place is the block deciphered.
+fn inv_values(keys: &[[u8; 16]; 11], input: [u8; 16]) -> [[u8; 16]; 51] {
+    let mut all = [keys[10]; 51];
+    let mut s = aes::add_round_key(aes::to_state(input), keys[10]);
+    let mut r: usize = 0;
+    while r < 10 {
+        let k = keys[9 - r];
+        let shifted = aes::inv_shift_rows(s);
+        let boxed = aes::inv_sub_bytes(shifted);
+        let added = aes::add_round_key(boxed, k);
+        let round = [
+            aes::of_state(s),
+            aes::of_state(shifted),
+            aes::of_state(boxed),
+            k,
+            aes::of_state(added),
+        ];
+        store(&mut all, 5 * r + 1, round);
+        let next = aes::inv_mix_columns(added);
+        s = next;
+        r += 1;
+    }
+    let output = aes::decrypt_block(keys, input);
+    all[50] = output;
     all
 }
 
@@ -93,18 +130,26 @@ fn summary(group: &[u8], got: &[[u8; 16]], out: &mut [u8]) -> usize
 }
 
 fn run(group: &[u8], out: &mut [u8]) -> usize {
-    let key = block(line(group, 3));
-    let input = line(group, 4);
-    if input.len() == 0 {
-        let keys = aes::expand_key(key);
-        return summary(group, &keys, out);
+    let keys = aes::expand_key(block(line(group, 3)));
+    let input = block(line(group, 4));
+    let what = line(group, 2);
+    if check::same(what, b" values passed") {
+        let all = values(&keys, input);
+        return summary(group, &all, out);
     }
-    let all = values(key, block(input));
-    summary(group, &all, out)
+    if check::same(what, b" values of the inverse cipher passed") {
+        let all = inv_values(&keys, input);
+        return summary(group, &all, out);
+    }
+    if check::same(what, b" outputs of the inverse cipher passed") {
+        let output = [aes::decrypt_block(&keys, input)];
+        return summary(group, &output, out);
+    }
+    summary(group, &keys, out)
 }
 
 fn main() {
-    let mut room = [0u8; 8192];
+    let mut room = [0u8; 16384];
     let n = io::read_full(STDIN_FILENO, &mut room);
     let groups = wire::part_of(&room, Part { start: 0, len: n });
     let mut out = [0u8; 128];

@@ -1,19 +1,16 @@
--- `values` is safe. Assumes nothing.
+-- `values` is safe, and ends. Assumes nothing.
 use borrow.Author.Needs.{needs}
 use mathlib.Core.Path.{_≡_}
 use Prim.Native.Nat.{_-_}
-use lib.ListN.{length, length-set}
+use lib.ListN.{length}
 use Rattle.fips197_vectors.proofs.values.Statement.{statement}
 use Rattle.fips197_vectors.proofs.values.Tie as tie
 
 abbrev Inv-loop : tie.InvT-loop
-Inv-loop input keys all₀ s₀ r₀ all s r = length all ≡ 50
+Inv-loop keys input all₀ s₀ r₀ all s r = length all ≡ 50
 
 abbrev μ-loop : tie.MeasureT-loop
-μ-loop input keys all₀ s₀ r₀ all s r = 10 - r
-
-loop-again : tie.Need-loop-again Inv-loop μ-loop
-loop-again c = simp length-set (c .before .before .before .before .before .before .before .before .before .before .loop .inv)
+μ-loop keys input all₀ s₀ r₀ all s r = 10 - r
 
 pub values-spec : {M : Type 1} → statement M
 values-spec =
@@ -22,7 +19,6 @@ values-spec =
     Inv-loop
     μ-loop
     (λ c κs. search needs)
-    (λ c κs. search needs)
     (λ c. search needs)
     (λ c κs. search needs)
     (λ c. search needs)
@@ -32,29 +28,17 @@ values-spec =
     (λ c κs. search needs)
     (λ c κs. search needs)
     (λ c κs. search needs)
-    (λ c. search needs)
+    (λ c κs. search needs)
+    (λ c κs. search needs)
+    (λ c κs. search needs)
     (λ c κs. search needs)
     (λ c. search needs)
     (λ c. search needs)
     (λ c κs. search needs)
-    (λ c. search needs)
-    (λ c. search needs)
-    (λ c. search needs)
     (λ c κs. search needs)
     (λ c. search needs)
     (λ c. search needs)
     (λ c. search needs)
-    (λ c κs. search needs)
-    (λ c. search needs)
-    (λ c. search needs)
-    (λ c. search needs)
-    (λ c. search needs)
-    (λ c. search needs)
-    (λ c. search needs)
-    (λ c κs. search needs)
-    (λ c. search needs)
-    (λ c. search needs)
-    loop-again
     (λ c. search needs)
     (λ c. search needs)
     (λ c κs. search needs)
