@@ -1,19 +1,15 @@
 -- The printed boxes are the defined ones at all 256 bytes, the definition's inverse and the affine step's are inverses, and each box undoes the other:
 -- tests that are computed entry by entry. Assumes nothing.
 use mathlib.Core.Path.{_≡_, _∙_, sym, ap}
-use mathlib.Core.Bool.{Bool, true, false, _&&_}
+use mathlib.Core.Bool.{Bool, _&&_}
 use mathlib.Core.List.{List}
 use Prim.Native.Nat.{ℕ, zero, suc, _<_}
 use lib.Dec.{T, eqb, eqb→eq}
 use lib.ListN.{length, getD}
-use Rattle.wire.proofs.Table.{at, every}
+use Rattle.wire.proofs.Table.{at, every, and-left, and-right}
 use Rattle.aes.specs.Field.{xtime, times, _•_}
 use Rattle.aes.specs.Box.{powers, inverse, turned, affine, subByte, printedBox, invAffine, invSubByte, printedInvBox}
 use Rattle.aes.proofs.Bytes.{sub-byte, inv-sub-byte}
-
-both : (a b : Bool) → T (a && b) → T a × T b
-both true b t = (tt, t)
-both false b t = absurd t
 
 -- ---- a box of two steps
 module _ (first second : ℕ → ℕ) (check : ℕ → ℕ → ℕ) (value : ℕ → ℕ) where
@@ -26,8 +22,10 @@ module _ (first second : ℕ → ℕ) (check : ℕ → ℕ → ℕ) (value : ℕ
   entry box tested k h =
       let x : ℕ = getD box k 0 in
       let c : ℕ = check k (first k) in
-      let t : T (eqb x (second (first k))) × T (eqb c (value k)) = both (eqb x (second (first k))) (eqb c (value k)) (at right box tested k h) in
-      (eqb→eq x (second (first k)) (t .0), eqb→eq c (value k) (t .1))
+      let a : Bool = eqb x (second (first k)) in
+      let b : Bool = eqb c (value k) in
+      let t : T (a && b) = at right box tested k h in
+      (eqb→eq x (second (first k)) (and-left a b t), eqb→eq c (value k) (and-right a b t))
 
 -- 1, and 0 for 0, which has no inverse
 abbrev pub one : ℕ → ℕ

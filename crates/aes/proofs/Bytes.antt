@@ -3,16 +3,14 @@ use mathlib.Core.List.{List, [], _∷_, _++_}
 use Prim.Native.Nat.{ℕ, zero, suc, _+_, _*_, _/_, _%_, _<_}
 use native.Mathlib.Omega.{arith}
 use lib.Bits.{xor-lt}
-use lib.Dec.{lit<}
+use lib.Dec.{T, lit<, ltb, ltb→lt}
 use lib.ListN.{getD}
+use Rattle.wire.proofs.Table.{every, and-left, and-right}
 use Rattle.aes.specs.Field.{_⊕_, xtime, digitTimes, times, _•_}
 use Rattle.aes.specs.Box.{powers, inverse, turned, affine, subByte, invAffine, invSubByte}
 use Rattle.aes.specs.Cipher.{four, rows, cell, ofState, mixed, word, xorWord, rotWord, subWord, chained, rcon, nextKey, roundKey, from, keyExpansion}
 use Rattle.aes.specs.InvCipher.{invMixed}
-
--- every element is a byte
-abbrev pub Bytes : List ℕ → Type 0
-Bytes l = (i : ℕ) → getD l i 0 < 256
+use Rattle.aes.specs.Inverse.{Bytes}
 
 -- ---- bytes
 pub xor-byte : {a b : ℕ} → a < 256 → b < 256 → a ⊕ b < 256
@@ -97,7 +95,13 @@ four-bytes f h = four-all (λ (b : ℕ). b < 256) f 0 (lit< tt) h
 pub rows-bytes : (f : ℕ → ℕ → ℕ) → ((r c : ℕ) → f r c < 256) → (r c : ℕ) → cell (rows f) r c < 256
 rows-bytes f h = four-all Bytes (λ r. four (λ c. f r c)) [] (λ c. lit< tt) (λ r. four-bytes (λ c. f r c) (h r))
 
-append-bytes : (a b : List ℕ) → Bytes a → Bytes b → Bytes (a ++ b)
+-- bytes that are written out, by a test that is computed
+pub listed-bytes : (s : List ℕ) (k : ℕ) → T (every (λ i b. ltb b 256) k s) → Bytes s
+listed-bytes [] k t i = lit< tt
+listed-bytes (b ∷ s) k t zero = ltb→lt b 256 (and-left (ltb b 256) (every (λ i b. ltb b 256) (suc k) s) t)
+listed-bytes (b ∷ s) k t (suc i) = listed-bytes s (suc k) (and-right (ltb b 256) (every (λ i b. ltb b 256) (suc k) s) t) i
+
+pub append-bytes : (a b : List ℕ) → Bytes a → Bytes b → Bytes (a ++ b)
 append-bytes [] b ha hb i = hb i
 append-bytes (x ∷ a) b ha hb zero = ha 0
 append-bytes (x ∷ a) b ha hb (suc i) = append-bytes a b (λ j. ha (suc j)) hb i

@@ -9,8 +9,9 @@ use Rattle.aes.specs.Field.{_⊕_}
 use Rattle.aes.specs.Box.{subByte, invSubByte}
 use Rattle.aes.specs.Cipher.{cell, four, rows, columns, from, toState, ofState, subBytes, shiftRows, mixed, mixColumns, addRoundKey, round, rounds, roundKey, keyExpansion, cipherUnder, cipher}
 use Rattle.aes.specs.InvCipher.{invSubBytes, invShiftRows, invMixed, invMixColumns, invRound, invRounds, invCipherUnder, invCipher}
+use Rattle.aes.specs.Inverse.{Bytes, SixteenBytes, BothWays}
 use Rattle.aes.proofs.Box.{inv-sub, sub-inv}
-use Rattle.aes.proofs.Bytes.{Bytes, xor-byte, sub-byte, inv-sub-byte, mixed-byte, inv-mixed-byte, rows-bytes, state-bytes, expansion-bytes}
+use Rattle.aes.proofs.Bytes.{xor-byte, sub-byte, inv-sub-byte, mixed-byte, inv-mixed-byte, rows-bytes, state-bytes, expansion-bytes}
 use Rattle.aes.proofs.Cells.{by-four}
 use Rattle.aes.proofs.Filled.{filled}
 use Rattle.aes.proofs.Linear.{unmixed, remixed}
@@ -20,11 +21,6 @@ use Rattle.aes.proofs.Undoing.{Undone, Inverses, turned-round, behind}
 pub record State (s : List (List ℕ)) : Type 0 where
   pub whole : rows (cell s) ≡ s
   pub bytes : (r c : ℕ) → cell s r c < 256
-
--- 16 bytes
-pub record Block (b : List ℕ) : Type 0 where
-  pub sixteen : length b ≡ 16
-  pub bytes : Bytes b
 
 in-rows : (f : ℕ → ℕ → ℕ) → ((r c : ℕ) → f r c < 256) → State (rows f)
 in-rows f h = record { whole = refl; bytes = rows-bytes f h }
@@ -83,7 +79,7 @@ add k hk = record { forth = undone; back = undone }
         }
 
 -- a block goes in, and comes out
-block : Inverses Block State toState ofState
+block : Inverses SixteenBytes State toState ofState
 unfolding from
 block =
     record {
@@ -113,17 +109,15 @@ module _ (keys : List (List ℕ)) (h : (i : ℕ) → Bytes (getD keys i [])) whe
   all-rounds (suc n) = behind (all-rounds n) (to-next (getD keys (suc n) []) (h (suc n)))
 
   -- under any round keys
-  pub ciphers : Inverses Block Block (cipherUnder keys) (invCipherUnder keys)
+  pub ciphers : Inverses SixteenBytes SixteenBytes (cipherUnder keys) (invCipherUnder keys)
   unfolding cipherUnder invCipherUnder
   ciphers =
       behind (behind (behind (behind block (add (getD keys 0 []) (h 0))) (all-rounds 9)) (add (getD keys 10 []) (h 10))) (turned-round block)
 
 -- ---- under a key
-module _ (key b : List ℕ) (hk : Bytes key) (h : Block b) where
-  pub deciphered : invCipher key (cipher key b) ≡ b
-  unfolding cipher invCipher
-  deciphered = ciphers (keyExpansion key) (expansion-bytes key hk) .forth .back b h
+pub under-key : (key : List ℕ) → Bytes key → Inverses SixteenBytes SixteenBytes (cipher key) (invCipher key)
+unfolding cipher invCipher
+under-key key h = ciphers (keyExpansion key) (expansion-bytes key h)
 
-  pub enciphered : cipher key (invCipher key b) ≡ b
-  unfolding cipher invCipher
-  enciphered = ciphers (keyExpansion key) (expansion-bytes key hk) .back .back b h
+pub both-ways : (key : List ℕ) → SixteenBytes key → BothWays key
+both-ways key h = let i = under-key key (h .bytes) in record { deciphered = i .forth .back; enciphered = i .back .back }

@@ -2,4 +2,5 @@ pub mod Field
 pub mod Box
 pub mod Cipher
 pub mod InvCipher
+pub mod Inverse
 pub mod Ctr

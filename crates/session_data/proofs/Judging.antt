@@ -24,7 +24,7 @@ use Rattle.session_data.specs.declared.DataAnswer.the-variants.{Accepted
 use Rattle.session_data.specs.declared.DataRead.{DataRead}
 
 -- bytes by their places
-places : (n : ℕ) (s : List ℕ) → length s ≡ n → s ≡ from (λ i. getD s i 0) 0 n
+pub places : (n : ℕ) (s : List ℕ) → length s ≡ n → s ≡ from (λ i. getD s i 0) 0 n
 places n s e = filled (λ i. getD s i 0) 0 s n e (λ k h. refl)
 
 pub text-is : (nonce validation : List ℕ) → length nonce ≡ 5 → length validation ≡ 4

@@ -1,1 +1,2 @@
 pub mod SessionData
+pub mod RoundTrip

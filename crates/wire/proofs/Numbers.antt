@@ -1,11 +1,12 @@
--- A number's bytes are read back as the number, at every width. Assumes nothing.
-use mathlib.Core.Path.{_≡_, refl, ap}
+-- A number's bytes are read back as the number, and bytes read as a number are its bytes, at every width. Assumes nothing.
+use mathlib.Core.Path.{_≡_, _∙_, refl, sym, ap, ap₂}
 use mathlib.Core.List.{List, [], _∷_, _++_}
 use Prim.Native.Nat.{ℕ, zero, suc, _+_, _*_, _^_, _/_, _%_, _≤_, _<_}
 use native.Mathlib.Nat.{pow-suc}
+use native.Mathlib.Numerals.{add-one}
 use native.Mathlib.Omega.{arith}
-use lib.ListN.{length, length-append, List·getD-eq-default}
-use lib.Seq.{getD-at, append-snoc}
+use lib.ListN.{length, getD, take, drop, length-append, List·getD-eq-default}
+use lib.Seq.{getD-at, append-snoc, drop-cons}
 use Rattle.wire.specs.Numbers.{num, le}
 
 pub length-le : (w v : ℕ) → length (le w v) ≡ w
@@ -23,6 +24,22 @@ num-le (suc (suc w)) v a r at e h =
     let ih : num (suc w) (at + 1) (a ++ (x ∷ []) ++ t) ≡ v / 256 =
     num-le (suc w) (v / 256) (a ++ (x ∷ [])) r (at + 1) (omega (arith, length-append a (x ∷ []))) (omega (arith, pow-suc 256 (suc w))) in
     rw (getD-at a x t 0 at e, rw append-snoc at ih) (omega arith)
+
+-- bytes read as a number are that number's
+pub le-num : (s : List ℕ) → ((i : ℕ) → getD s i 0 < 256) → (w at : ℕ) → at + w ≤ length s → le w (num w at s) ≡ take w (drop at s)
+le-num s h zero at k = refl
+le-num s h (suc zero) at k = sym (ap (take 1) (drop-cons s at 0 (omega arith)))
+le-num s h (suc (suc w)) at k =
+    let b : ℕ = getD s at 0 in
+    let m : ℕ = num (suc w) (at + 1) s in
+    ap₂ _∷_ (low b m (h at)) (ap (le (suc w)) (high b m (h at)) ∙ le-num s h (suc w) (at + 1) (omega arith) ∙ rw (add-one at))
+    ∙ sym (ap (take (suc (suc w))) (drop-cons s at 0 (omega arith)))
+  where
+    low : (b m : ℕ) → b < 256 → (b + 256 * m) % 256 ≡ b
+    low b m h = omega arith
+
+    high : (b m : ℕ) → b < 256 → (b + 256 * m) / 256 ≡ m
+    high b m h = omega arith
 
 -- past the end stands 0
 pub num-past : (w at : ℕ) (s : List ℕ) → length s ≤ at → num w at s ≡ 0

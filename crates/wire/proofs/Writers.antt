@@ -2,17 +2,15 @@
 use mathlib.Core.Path.{_≡_, refl, sym, ap, subst, _∙_}
 use mathlib.Core.Bool.{Bool, true, false}
 use mathlib.Core.List.{List, [], _∷_, _++_}
-use Prim.Native.Nat.{ℕ, _+_}
+use Prim.Native.Nat.{ℕ, zero, suc, _+_}
 use native.Mathlib.Omega.{arith}
-use native.Mathlib.Nat.{zero-add}
 use lib.ListN.{length, take, drop}
 use lib.Seq.{take-at}
-use lib.Dec.{ltb}
-use Rattle.wire.specs.Rules.{Rule, _when_, firstBroken, judge}
+use Rattle.wire.specs.Rules.{Rule, _when_, firstBroken, verdict}
 use Rattle.wire.specs.Writing.{Stores, Writes, noRoom}
 use Rattle.wire.specs.declared.Written.{Written}
 use Rattle.wire.specs.declared.Written.the-variants.{Wrote, Refused}
-use Rattle.wire.proofs.Rules.{judge-pass}
+use Rattle.wire.proofs.Rules.{judge-pass, first-none}
 use Rattle.wire.proofs.Writing.{stores-refused, stores-past}
 
 module _ {bad : Bool} {image room : List ℕ} where
@@ -28,18 +26,23 @@ module _ {bad : Bool} {image room : List ℕ} where
   pub writes-as : {worse : Bool} {answer : Written} {after : List ℕ} → bad ≡ worse → Writes worse image room answer after → Writes bad image room answer after
   writes-as {answer} {after} e w = subst (λ (b : Bool). Writes b image room answer after) (sym e) w
 
-wrote-only : (bad short : Bool) (l n : ℕ) → judge Refused ((17 when bad) ∷ (25 when short) ∷ []) (Wrote l) ≡ Wrote n
-    → (bad ≡ false) × (short ≡ false) × (l ≡ n)
-wrote-only false false l n e = (refl, refl, cc)
-wrote-only false true l n e = absurd (let z : _≡_ {A = ℕ} 0 1 = cc in omega arith)
-wrote-only true short l n e = absurd (let z : _≡_ {A = ℕ} 0 1 = cc in omega arith)
+wrote-only : (k l n : ℕ) → verdict Refused k (Wrote l) ≡ Wrote n → (k ≡ 0) × (l ≡ n)
+wrote-only zero l n e = (refl, cc)
+wrote-only (suc k) l n e = absurd (let z : _≡_ {A = ℕ} 0 1 = cc in omega arith)
 
--- what it wrote is the image, and stands at the front
+-- a writer that says it wrote has broken no rule; the bytes stand at the front
+pub wrote-held : {rules : List Rule} {bytes room : List ℕ} {answer : Written} {after : List ℕ} (n : ℕ) → Stores rules 0 bytes room answer after → answer ≡ Wrote n
+    → (firstBroken rules ≡ 0) × (take n after ≡ bytes)
+wrote-held {rules} {bytes} {room} n w e =
+    let d = wrote-only (firstBroken rules) (length bytes) n (sym (w .answers) ∙ e) in
+    (d .0, ap (take n) (w .leaves ∙ judge-pass (λ m. room) rules (bytes ++ drop (0 + length bytes) room) (d .0)) ∙ take-at bytes (drop (0 + length bytes) room) n (d .1))
+
+-- what it wrote is the image
 pub wrote-image : {bad : Bool} {image room : List ℕ} {answer : Written} {after : List ℕ} (n : ℕ) → Writes bad image room answer after → answer ≡ Wrote n
     → (bad ≡ false) × (take n after ≡ image)
 wrote-image {bad} {image} {room} n w e =
-    let d = wrote-only bad (ltb (length room) (length image)) (length image) n (rw (zero-add (length image)) at (sym (w .answers) ∙ e)) in
-    (d .0, ap (take n) (w .leaves ∙ rw (d .0, zero-add (length image), d .1)) ∙ take-at image (drop (length image) room) n (d .2))
+    let d = wrote-held n w e in
+    (first-none 16 bad (noRoom 0 image room ∷ []) (d .0) .0, d .1)
 
 -- a writer whose rules all hold has written, at the front
 pub wrote : (rules : List Rule) (bytes room after : List ℕ) (answer : Written) → firstBroken rules ≡ 0 → Stores rules 0 bytes room answer after
