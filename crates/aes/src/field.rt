@@ -1,6 +1,6 @@
 // The field of 256 elements: FIPS 197, section 4.2, and the inverse of section 5.1.1.
 ghost use mathlib.Core.Path.{_≡_};
-ghost use Rattle.aes.specs.Field.{xtime as xtimeOf, digitTimes, _•_};
+ghost use Rattle.aes.specs.Field.{xtime as xtimeOf, _•_};
 ghost use Rattle.aes.specs.Box.{inverse as inverseOf};
 
 // A byte times x.
@@ -8,13 +8,6 @@ pub fn xtime(b: u8) -> u8
     ensures { λ r. ⌜ r ≡ xtimeOf b ⌝ }
 {
     (b % 128 * 2) ^ (b / 128 * 0x1b)
-}
-
-// A byte, taken as often as a binary digit says.
-fn digit_times(digit: u8, a: u8) -> u8
-    ensures { λ r. ⌜ r ≡ digitTimes digit a ⌝ }
-{
-    if digit == 0 { 0 } else { a }
 }
 
 // The product of two bytes.
@@ -26,7 +19,7 @@ pub fn product(k: u8, a: u8) -> u8
     let mut x = a;
     let mut left: usize = 8;
     while 0 < left {
-        sum = sum ^ digit_times(digits % 2, x);
+        sum = sum ^ (digits % 2 * x);
         digits = digits / 2;
         x = xtime(x);
         left -= 1;

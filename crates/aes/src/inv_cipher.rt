@@ -7,9 +7,9 @@ use super::steps::to_state;
 ghost use mathlib.Core.Path.{_≡_};
 ghost use lib.ListN.{getD};
 ghost use Rattle.aes.specs.Field.{_⊕_, _•_};
-ghost use Rattle.aes.specs.Box.{invAffine, invSubByte};
+ghost use Rattle.aes.specs.Box.{invSubByte};
 ghost use Rattle.aes.specs.Cipher.{four};
-ghost use Rattle.aes.specs.InvCipher.{invShiftRows, invSubBytes, invMixed, invMixColumns, invRound, invCipherUnder};
+ghost use Rattle.aes.specs.InvCipher.{invShiftRows, invSubBytes, invMixed, invMixColumns, invCipherUnder};
 
 pub fn inv_shift_rows(s: [[u8; 4]; 4]) -> [[u8; 4]; 4]
     ensures { λ r. ⌜ r ≡ invShiftRows s ⌝ }
@@ -26,17 +26,11 @@ pub fn inv_shift_rows(s: [[u8; 4]; 4]) -> [[u8; 4]; 4]
     ]
 }
 
-// The affine step undone.
-fn inv_affine(b: u8) -> u8
-    ensures { λ r. ⌜ r ≡ invAffine b ⌝ }
-{
-    (b % 4 * 64 + b / 4) ^ (b % 32 * 8 + b / 32) ^ (b % 128 * 2 + b / 128) ^ 0x05
-}
-
+// The affine step undone, and then the inverse.
 fn inv_sub_byte(b: u8) -> u8
     ensures { λ r. ⌜ r ≡ invSubByte b ⌝ }
 {
-    inverse(inv_affine(b))
+    inverse((b % 4 * 64 + b / 4) ^ (b % 32 * 8 + b / 32) ^ (b % 128 * 2 + b / 128) ^ 0x05)
 }
 
 fn inv_sub_row(a: [u8; 4]) -> [u8; 4]
@@ -112,12 +106,6 @@ pub fn inv_mix_columns(s: [[u8; 4]; 4]) -> [[u8; 4]; 4]
     ]
 }
 
-fn inv_round(s: [[u8; 4]; 4], k: [u8; 16]) -> [[u8; 4]; 4]
-    ensures { λ r. ⌜ r ≡ invRound k s ⌝ }
-{
-    inv_mix_columns(add_round_key(inv_sub_bytes(inv_shift_rows(s)), k))
-}
-
 // A block deciphered under round keys.
 pub fn decrypt_block(keys: &[[u8; 16]; 11], block: [u8; 16]) -> [u8; 16]
     ensures { λ r. ⌜ r ≡ invCipherUnder (now (keys .entry)) block ⌝ }
@@ -125,7 +113,8 @@ pub fn decrypt_block(keys: &[[u8; 16]; 11], block: [u8; 16]) -> [u8; 16]
     let mut s = add_round_key(to_state(block), keys[10]);
     let mut i: usize = 9;
     while 0 < i {
-        let n = inv_round(s, keys[i]);
+        let added = add_round_key(inv_sub_bytes(inv_shift_rows(s)), keys[i]);
+        let n = inv_mix_columns(added);
         s = n;
         i -= 1;
     }

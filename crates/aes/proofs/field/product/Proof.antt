@@ -1,32 +1,34 @@
 -- `aes::field::product` meets its contract. Invariant: what is summed up, and the product by the digits that are left, are the product. Assumes nothing.
-use mathlib.Core.Path.{_≡_, _∙_, refl, sym, ap, ap₂}
-use Prim.Native.Nat.{ℕ, _-_, _/_, _%_, _≤_}
+use mathlib.Core.Path.{_≡_, _∙_, refl, sym, ap}
+use Prim.Native.Nat.{ℕ, _-_, _*_, _/_, _%_, _≤_, _<_}
 use native.Mathlib.Omega.{arith}
 use lib.Bits.{bitXor, xor-zero-r}
 use borrow.Author.Needs.{needs}
 use Rattle.wire.proofs.Xor.{xor-assoc}
-use Rattle.aes.specs.Field.{_⊕_, digitTimes, times, _•_}
-use Rattle.aes.proofs.Turns.{times-step}
+use Rattle.aes.specs.Field.{_⊕_, times, _•_}
+use Rattle.aes.proofs.Turns.{digit-byte, times-step}
 use Rattle.aes.proofs.field.product.Statement.{statement}
 use Rattle.aes.proofs.field.product.Tie as tie
 
 abbrev Inv-loop : tie.InvT-loop
-Inv-loop k a sum₀ digits₀ x₀ left₀ sum digits x left = sum ⊕ times left digits x ≡ k • a
+Inv-loop k a sum₀ digits₀ x₀ left₀ sum digits x left = (x < 256) × (sum ⊕ times left digits x ≡ k • a)
 
 abbrev μ-loop : tie.MeasureT-loop
 μ-loop k a sum₀ digits₀ x₀ left₀ sum digits x left = left
 
 loop-holds : tie.Need-loop-holds Inv-loop μ-loop
 unfolding _•_
-loop-holds c = refl
+loop-holds c = (search needs, refl)
 
 loop-again : tie.Need-loop-again Inv-loop μ-loop
 loop-again c =
-    let l = c .before .before .before .loop in
-    ap₂ (λ (d x : ℕ). l .sum ⊕ d ⊕ times (l .left - 1) (l .digits / 2) x) (c .before .digit-times .ensures) (c .xtime .ensures)
-    ∙ xor-assoc (l .sum) (digitTimes (l .digits % 2) (l .x)) (times (l .left - 1) (l .digits / 2) _)
-    ∙ ap (bitXor (l .sum)) (sym (times-step (l .left) (l .digits) (l .x) (c .before .before .loop-test .taken)))
-    ∙ l .inv
+    let l = c .before .before .loop in (
+      search needs,
+      ap (λ (x : ℕ). l .sum ⊕ (l .digits % 2 * l .x) ⊕ times (l .left - 1) (l .digits / 2) x) (c .xtime .ensures)
+          ∙ xor-assoc (l .sum) (l .digits % 2 * l .x) (times (l .left - 1) (l .digits / 2) _)
+          ∙ ap (bitXor (l .sum)) (sym (times-step (l .left) (l .digits) (l .x) (c .before .loop-test .taken)))
+          ∙ l .inv .1,
+    )
 
 none : (n : ℕ) → n ≤ 0 → 0 ≡ n
 none n h = omega arith
@@ -35,7 +37,7 @@ returns : tie.Need-returns Inv-loop μ-loop
 unfolding times
 returns c =
     let l = c .before .loop in
-    sym (xor-zero-r (l .sum)) ∙ ap (λ (n : ℕ). l .sum ⊕ times n (l .digits) (l .x)) (none (l .left) (c .loop-test .left)) ∙ l .inv
+    sym (xor-zero-r (l .sum)) ∙ ap (λ (n : ℕ). l .sum ⊕ times n (l .digits) (l .x)) (none (l .left) (c .loop-test .left)) ∙ l .inv .1
 
 pub product-spec : {M : Type 1} → statement M
 product-spec =
@@ -44,7 +46,7 @@ product-spec =
     Inv-loop
     μ-loop
     loop-holds
-    (λ c κs. search needs)
+    (λ c. record { fits = digit-byte (c .before .loop .digits) (c .before .loop .x) (c .before .loop .inv .0) })
     (λ c κs. search needs)
     (λ c. search needs)
     (λ c. search needs)

@@ -6,7 +6,7 @@ use native.Mathlib.Omega.{arith}
 use lib.ListN.{getD}
 use borrow.Author.Needs.{needs}
 use Rattle.aes.specs.Cipher.{addRoundKey, ofState}
-use Rattle.aes.specs.InvCipher.{invCipherUnder, invRounds, invSubBytes, invShiftRows}
+use Rattle.aes.specs.InvCipher.{invCipherUnder, invRound, invRounds, invSubBytes, invShiftRows, invMixColumns}
 use Rattle.aes.proofs.Turns.{inv-rounds-step}
 use Rattle.aes.proofs.inv_cipher.decrypt_block.Statement.{statement}
 use Rattle.aes.proofs.inv_cipher.decrypt_block.Tie as tie
@@ -18,13 +18,17 @@ abbrev μ-loop : tie.MeasureT-loop
 μ-loop keys s₀ i₀ s i = i
 
 loop-again : tie.Need-loop-again Inv-loop μ-loop
+unfolding invRound
 loop-again c =
-    let b = c .before .before .before in
-    let keys = b .before .before .before .before .args .keys .now in (
+    let d = c .before .before .before in
+    let l = d .before .before .before in
+    let keys = l .before .before .before .before .args .keys .now in (
       search needs,
-      ap (λ (s : List (List ℕ)). invRounds keys s (b .loop .i - 1)) (c .inv-round .ensures)
-          ∙ sym (inv-rounds-step keys (b .loop .s) (b .loop .i) (c .before .before .loop-test .taken))
-          ∙ b .loop .inv .1,
+      ap (λ (s : List (List ℕ)). invRounds keys s (l .loop .i - 1))
+          (c .inv-mix-columns .ensures ∙ ap invMixColumns (c .before .add-round-key2 .ensures ∙ ap (addRoundKey (getD keys (l .loop .i) []))
+          (d .inv-sub-bytes .ensures ∙ ap invSubBytes (d .before .inv-shift-rows .ensures))))
+          ∙ sym (inv-rounds-step keys (l .loop .s) (l .loop .i) (d .before .before .loop-test .taken))
+          ∙ l .loop .inv .1,
     )
 
 none : (keys s s₀ : List (List ℕ)) (i : ℕ) → i ≤ 0 → invRounds keys s i ≡ invRounds keys s₀ 9 → s ≡ invRounds keys s₀ 9
@@ -41,8 +45,8 @@ returns c =
     let l = d .before .before .before in
     let keys = l .before .before .before .before .args .keys .now in
     c .of-state .ensures
-    ∙ ap ofState (c .before .add-round-key2 .ensures ∙ ap (addRoundKey (getD keys 0 []))
-    (d .inv-sub-bytes .ensures ∙ ap invSubBytes (d .before .inv-shift-rows .ensures ∙ ap invShiftRows
+    ∙ ap ofState (c .before .add-round-key3 .ensures ∙ ap (addRoundKey (getD keys 0 []))
+    (d .inv-sub-bytes2 .ensures ∙ ap invSubBytes (d .before .inv-shift-rows2 .ensures ∙ ap invShiftRows
     (none keys (l .loop .s) (l .before .add-round-key .result) (l .loop .i) (d .before .before .loop-test .left) (l .loop .inv .1)
     ∙ ap (λ (s : List (List ℕ)). invRounds keys s 9)
     (l .before .add-round-key .ensures ∙ ap (addRoundKey (getD keys 10 [])) (l .before .before .before .to-state .ensures))))))
@@ -57,8 +61,11 @@ decrypt-block-spec =
     (λ c. search needs)
     (λ c κs. search needs)
     (λ c. (search needs, refl))
+    (λ c κs. search needs)
+    (λ c κs. search needs)
     (λ c. search needs)
     (λ c. search needs)
+    (λ c κs. search needs)
     (λ c κs. search needs)
     (λ c. search needs)
     (λ c. search needs)
