@@ -4,3 +4,5 @@ pub mod RoundTrip
 pub mod Assembled
 pub mod Padding
 pub mod PaddingExample
+pub mod Connected
+pub mod ConnectedExample

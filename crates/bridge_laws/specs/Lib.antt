@@ -2,3 +2,4 @@ pub mod Accepts
 pub mod RoundTrip
 pub mod Assembled
 pub mod Padding
+pub mod Connected
