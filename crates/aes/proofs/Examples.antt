@@ -2,7 +2,7 @@
 use mathlib.Core.Path.{_≡_, refl}
 use mathlib.Core.List.{[], _∷_}
 use Rattle.aes.specs.Field.{xtime, times, _•_}
-use Rattle.aes.specs.Box.{subByte, affine, turned, inverse, powers}
+use Rattle.aes.specs.Box.{subByte, affine, turned, inverse, powers, invSubByte, invAffine}
 use Rattle.aes.specs.Cipher.{rcon}
 use Rattle.aes.specs.Ctr.{counterBlock}
 
@@ -20,6 +20,11 @@ doubled = refl
 substituted : subByte 0x53 ≡ 0xed
 unfolding subByte affine turned inverse powers _•_ times xtime
 substituted = refl
+
+-- section 5.3.2: and back
+substituted-back : invSubByte 0xed ≡ 0x53
+unfolding invSubByte invAffine turned inverse powers _•_ times xtime
+substituted-back = refl
 
 -- section 5.2: the constants of round keys 9 and 10
 constants : rcon 8 ∷ rcon 9 ∷ [] ≡ 0x1b ∷ 0x36 ∷ []

@@ -11,7 +11,7 @@ use Rattle.wire.specs.Numbers.{num, le}
 use Rattle.wire.specs.Rules.{_when_, firstBroken}
 use Rattle.wire.specs.declared.Written.{Written}
 use Rattle.wire.specs.declared.Written.the-variants.{Wrote}
-use Rattle.wire.proofs.Given.{good-exactly}
+use Rattle.wire.proofs.Given.{never, good-exactly}
 use Rattle.wire.proofs.Held.{held}
 use Rattle.wire.proofs.Numbers.{le-num}
 use Rattle.wire.proofs.Rules.{none-append}
@@ -73,6 +73,11 @@ text-made t h e =
     let a : le 4 0xCAFEBABE ≡ take 4 t = sym (ap (le 4) n) ∙ le-num t (h .bytes) 4 0 (omega (arith, h .sixteen)) in
     let b : 0 ∷ 0 ∷ [] ≡ take 2 (drop 14 t) = sym (ap (le 2) z) ∙ le-num t (h .bytes) 2 14 (omega (arith, h .sixteen)) in
     (λ i. a i ++ (sym p i ∷ (nonceIn t ++ (validationIn t ++ b i)))) ∙ sym (cut t (h .sixteen))
+
+-- ---- numbers
+-- the writer never gives 17
+pub write-never : (key : Key) (image room : List ℕ) → firstBroken (writeRules key image room) ≡ 17 → ⊥
+write-never key image room = never (writeRules key image room) 16 refl
 
 accepts : DataAnswer → Bool
 accepts Accepted = true

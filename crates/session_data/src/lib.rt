@@ -131,16 +131,23 @@ fn connect(old: Connection, text: [u8; 16]) -> Connection
     old.with_data(nonce, validation)
 }
 
+// A refusal leaves the old connection session.
+fn refused(number: u8, old: Connection) -> DataRead
+    ensures { λ r. ⌜ r ≡ record { answer = DataAnswer.Refused number; connection = old } ⌝ }
+{
+    DataRead {
+        answer: DataAnswer::Refused(number),
+        connection: old,
+    }
+}
+
 // A block deciphered: 11, 13, 19.
 fn read_text(old: Connection, text: [u8; 16]) -> DataRead
     ensures { λ r. ⌜ r ≡ judged (textRules text) old text ⌝ }
 {
     let number = judge_text(&text);
     if number != 0 {
-        return DataRead {
-            answer: DataAnswer::Refused(number),
-            connection: old,
-        };
+        return refused(number, old);
     }
     DataRead {
         answer: DataAnswer::Accepted,
@@ -148,23 +155,17 @@ fn read_text(old: Connection, text: [u8; 16]) -> DataRead
     }
 }
 
-// A block of any length: 7, 10, 11, 13, 19. A refused one leaves the old connection session.
+// A block of any length: 7, 10, 11, 13, 19.
 pub fn read_session_data(keys: Keys, mode: Mode, old: Connection, block: &[u8]) -> DataRead
     ensures { λ r. ⌜ ReadsData (dataKey keys mode) old (now (block .entry)) r ⌝ }
 {
     if block.len() != 16 {
-        return DataRead {
-            answer: DataAnswer::Refused(7),
-            connection: old,
-        };
+        return refused(7, old);
     }
     let key = data_key(keys, mode);
     if key.held {
         let bytes = key.bytes;
         return read_text(old, decipher(bytes, block));
     }
-    DataRead {
-        answer: DataAnswer::Refused(10),
-        connection: old,
-    }
+    refused(10, old)
 }

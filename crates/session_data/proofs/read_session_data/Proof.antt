@@ -14,10 +14,11 @@ use Rattle.session_data.proofs.read_session_data.Tie as tie
 returns : tie.Need-returns
 unfolding dataRead
 returns c =
-    let a = c .before .before .args in
+    let a = c .before .before .before .args in
     let key = dataKey (a .keys) (a .mode) in
     reads-data key (a .old) (a .block .now) _
-    (judged-refused (readRules key (a .block .now)) (a .old) (textOf key (a .block .now)) 7 (wrong-length key (a .old) (a .block .now) (c .if1 .taken)) (λ e. omega arith))
+    (c .refused .ensures
+    ∙ judged-refused (readRules key (a .block .now)) (a .old) (textOf key (a .block .now)) 7 (wrong-length key (a .old) (a .block .now) (c .before .if1 .taken)) (λ e. omega arith))
 
 returns-2 : tie.Need-returns-2
 returns-2 c =
@@ -34,19 +35,23 @@ returns-2 c =
 returns-3 : tie.Need-returns-3
 unfolding dataRead
 returns-3 c =
-    let a = c .before .before .before .before .args in
+    let k = c .before .before in
+    let a = k .before .before .before .args in
     let key = dataKey (a .keys) (a .mode) in
     reads-data key (a .old) (a .block .now) _
-    (judged-refused (readRules key (a .block .now)) (a .old) (textOf key (a .block .now)) 10
-    (key-absent key (a .old) (a .block .now) (c .before .before .if1 .left) (sym (ap (λ (k : Key). k .held) (c .before .data-key .ensures)) ∙ c .if2 .left)) (λ e. omega arith))
+    (c .refused2 .ensures
+    ∙ judged-refused (readRules key (a .block .now)) (a .old) (textOf key (a .block .now)) 10
+    (key-absent key (a .old) (a .block .now) (k .before .if1 .left) (sym (ap (λ (k : Key). k .held) (k .data-key .ensures)) ∙ c .before .if2 .left)) (λ e. omega arith))
 
 pub read-session-data-spec : {M : Type 1} → statement M
 read-session-data-spec =
     tie.close
     (tie.spec
+    (λ c κs. search needs)
     returns
     (λ c κs. search needs)
     (λ c κs. search needs)
     (λ c κs. search needs)
     returns-2
+    (λ c κs. search needs)
     returns-3)

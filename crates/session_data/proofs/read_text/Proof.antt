@@ -11,8 +11,9 @@ use Rattle.session_data.proofs.read_text.Tie as tie
 
 returns : tie.Need-returns
 returns c =
-    let a = c .before .before .before .args in
-    judged-refused (textRules (a .t2)) (a .old) (a .t2) (c .before .judge-text .result) (c .before .judge-text .ensures) (c .if1 .taken)
+    let j = c .before .before in
+    let a = j .before .before .args in
+    c .refused .ensures ∙ judged-refused (textRules (a .t2)) (a .old) (a .t2) (j .judge-text .result) (j .judge-text .ensures) (c .before .if1 .taken)
 
 returns-2 : tie.Need-returns-2
 returns-2 c =
@@ -22,4 +23,4 @@ returns-2 c =
     ∙ judged-accepted (textRules (a .t2)) (a .old) (a .t2) (sym (c .before .if1 .left) ∙ j .judge-text .ensures)
 
 pub read-text-spec : {M : Type 1} → statement M
-read-text-spec = tie.close (tie.spec (λ c. search needs) (λ c κs. search needs) returns (λ c κs. search needs) returns-2)
+read-text-spec = tie.close (tie.spec (λ c. search needs) (λ c κs. search needs) (λ c κs. search needs) returns (λ c κs. search needs) returns-2)
