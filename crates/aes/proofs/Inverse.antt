@@ -3,11 +3,11 @@
 use mathlib.Core.Path.{_≡_, _∙_, refl, sym}
 use mathlib.Core.List.{List, []}
 use Prim.Native.Nat.{ℕ, zero, suc, _+_, _-_, _*_, _%_, _<_}
-use lib.ListN.{getD, length}
+use lib.ListN.{getD}
 use Rattle.wire.proofs.Xor.{xor-twice}
 use Rattle.aes.specs.Field.{_⊕_}
 use Rattle.aes.specs.Box.{subByte, invSubByte}
-use Rattle.aes.specs.Cipher.{cell, four, rows, columns, from, toState, ofState, subBytes, shiftRows, mixed, mixColumns, addRoundKey, round, rounds, roundKey, keyExpansion, cipherUnder, cipher}
+use Rattle.aes.specs.Cipher.{cell, four, rows, columns, from, toState, ofState, subBytes, shiftRows, mixed, mixColumns, addRoundKey, round, rounds, keyExpansion, cipherUnder, cipher}
 use Rattle.aes.specs.InvCipher.{invSubBytes, invShiftRows, invMixed, invMixColumns, invRound, invRounds, invCipherUnder, invCipher}
 use Rattle.aes.specs.Inverse.{Bytes, SixteenBytes, BothWays}
 use Rattle.aes.proofs.Box.{inv-sub, sub-inv}

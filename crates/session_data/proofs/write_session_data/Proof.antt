@@ -1,8 +1,5 @@
 -- `session_data::write_session_data` meets its contract. Assumes nothing.
-use mathlib.Core.Path.{_≡_, _∙_, sym, ap, ap₂}
-use native.Mathlib.Omega.{arith}
-use mathlib.Core.List.{List}
-use Prim.Native.Nat.{ℕ}
+use mathlib.Core.Path.{_∙_, sym, ap, ap₂}
 use Rattle.aes.specs.Cipher.{cipher}
 use Rattle.session.specs.declared.Key.{Key}
 use Rattle.session_data.specs.SessionData.{dataKey, dataImage}
