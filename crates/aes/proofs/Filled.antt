@@ -34,3 +34,7 @@ module _ {A : Type 0} (f : ℕ → A) (d : A) where
   filled l n e all =
       ext-getD d l (from f 0 n) (e ∙ sym (length-from 0 n))
       (λ k h. all k (omega arith) ∙ sym (getD-from 0 n k (omega arith) ∙ ap f (zero-add k)))
+
+-- numbers by their places
+pub places : (n : ℕ) (s : List ℕ) → length s ≡ n → s ≡ from (λ i. getD s i 0) 0 n
+places n s e = filled (λ i. getD s i 0) 0 s n e (λ k h. refl)

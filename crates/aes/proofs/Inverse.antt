@@ -13,9 +13,9 @@ use Rattle.aes.specs.Inverse.{Bytes, SixteenBytes, BothWays}
 use Rattle.aes.proofs.Box.{inv-sub, sub-inv}
 use Rattle.aes.proofs.Bytes.{xor-byte, sub-byte, inv-sub-byte, mixed-byte, inv-mixed-byte, rows-bytes, state-bytes, expansion-bytes}
 use Rattle.aes.proofs.Cells.{by-four}
-use Rattle.aes.proofs.Filled.{filled}
+use Rattle.aes.proofs.Filled.{places}
 use Rattle.aes.proofs.Linear.{unmixed, remixed}
-use Rattle.aes.proofs.Undoing.{Undone, Inverses, turned-round, behind}
+use Rattle.aes.proofs.Undoing.{Undone, Inverses, reversed, behind}
 
 -- four rows of four bytes
 pub record State (s : List (List ℕ)) : Type 0 where
@@ -85,7 +85,7 @@ block =
     record {
       forth = record {
         keeps = λ b h. in-rows (λ r c. getD b (r + 4 * c) 0) (λ r c. h .bytes (r + 4 * c));
-        back = λ b h. sym (filled (λ i. getD b i 0) 0 b 16 (h .sixteen) (λ k lt. refl));
+        back = λ b h. sym (places 16 b (h .sixteen));
       };
       back = record {
         keeps = λ s h. record { sixteen = refl; bytes = state-bytes (cell s) (h .bytes) };
@@ -112,7 +112,7 @@ module _ (keys : List (List ℕ)) (h : (i : ℕ) → Bytes (getD keys i [])) whe
   pub ciphers : Inverses SixteenBytes SixteenBytes (cipherUnder keys) (invCipherUnder keys)
   unfolding cipherUnder invCipherUnder
   ciphers =
-      behind (behind (behind (behind block (add (getD keys 0 []) (h 0))) (all-rounds 9)) (add (getD keys 10 []) (h 10))) (turned-round block)
+      behind (behind (behind (behind block (add (getD keys 0 []) (h 0))) (all-rounds 9)) (add (getD keys 10 []) (h 10))) (reversed block)
 
 -- ---- under a key
 pub under-key : (key : List ℕ) → Bytes key → Inverses SixteenBytes SixteenBytes (cipher key) (invCipher key)

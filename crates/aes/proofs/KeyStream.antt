@@ -16,7 +16,7 @@ use Rattle.wire.proofs.Lists.{sets-then, copy-more}
 use Rattle.aes.specs.Field.{_⊕_}
 use Rattle.aes.specs.Cipher.{from, cipher}
 use Rattle.aes.specs.Ctr.{xors, highFirst, counterBlock, keystream, blocksFor, ctrOf}
-use Rattle.aes.proofs.Filled.{filled}
+use Rattle.aes.proofs.Filled.{places}
 use Rattle.aes.proofs.Cipher.{length-cipher}
 
 -- ---- bytes summed one by one
@@ -52,7 +52,7 @@ pub counter-is : (pn sn : List ℕ) (i : ℕ) → length pn ≡ 3 → length sn 
     → counterBlock pn sn i ≡ getD pn 0 0 ∷ getD pn 1 0 ∷ getD pn 2 0 ∷ getD sn 0 0 ∷ getD sn 1 0 ∷ getD sn 2 0 ∷ getD sn 3 0 ∷ getD sn 4 0 ∷ highFirst 8 i
 unfolding counterBlock from
 counter-is pn sn i hp hs =
-    ap₂ (λ (p s : List ℕ). p ++ (s ++ highFirst 8 i)) (filled (λ k. getD pn k 0) 0 pn 3 hp (λ k h. refl)) (filled (λ k. getD sn k 0) 0 sn 5 hs (λ k h. refl))
+    ap₂ (λ (p s : List ℕ). p ++ (s ++ highFirst 8 i)) (places 3 pn hp) (places 5 sn hs)
 
 -- ---- the key stream
 module _ (key pn sn : List ℕ) where

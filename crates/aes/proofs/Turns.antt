@@ -27,8 +27,8 @@ digit-is : (d a : ℕ) → d < 2 → digitTimes d a ≡ d * a
 digit-is d a h = bit (λ (d : ℕ). digitTimes d a ≡ d * a) (sym (zero-mul a)) (sym (one-mul a)) d h
 
 -- a digit of a number times a byte is a byte
-pub digit-byte : (k a : ℕ) → a < 256 → k % 2 * a < 256
-digit-byte k a h = bit (λ (d : ℕ). d * a < 256) (omega (arith, zero-mul a)) (omega (arith, one-mul a)) (k % 2) (omega arith)
+pub digit-fits : (k a : ℕ) → a < 256 → k % 2 * a < 256
+digit-fits k a h = bit (λ (d : ℕ). d * a < 256) (omega (arith, zero-mul a)) (omega (arith, one-mul a)) (k % 2) (omega arith)
 
 pub times-step : (n k a : ℕ) → 0 < n → times n k a ≡ k % 2 * a ⊕ times (n - 1) (k / 2) (xtime a)
 unfolding times

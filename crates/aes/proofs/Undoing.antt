@@ -11,8 +11,8 @@ pub record Inverses {A B : Type 0} (P : A → Type 0) (Q : B → Type 0) (f : A 
   pub forth : Undone P Q f g
   pub back : Undone Q P g f
 
-pub turned-round : {A B : Type 0} {P : A → Type 0} {Q : B → Type 0} {f : A → B} {g : B → A} → Inverses P Q f g → Inverses Q P g f
-turned-round i = record { forth = i .back; back = i .forth }
+pub reversed : {A B : Type 0} {P : A → Type 0} {Q : B → Type 0} {f : A → B} {g : B → A} → Inverses P Q f g → Inverses Q P g f
+reversed i = record { forth = i .back; back = i .forth }
 
 both-undone : {A B C : Type 0} {P : A → Type 0} {Q : B → Type 0} {R : C → Type 0} {f : A → B} {g : B → A} {f′ : B → C} {g′ : C → B}
     → Undone P Q f g → Undone Q R f′ g′ → Undone P R (λ a. f′ (f a)) (λ c. g (g′ c))

@@ -2,6 +2,7 @@
 //
 // The box is a table that is made once a call and lent to what substitutes bytes. What takes it asks that it
 // is the box, so it is private to this file and the modules below it: no public function takes the table.
+// The inverse box is worked out (inv_cipher).
 mod ctr;
 mod field;
 mod inv_cipher;

@@ -14,7 +14,7 @@ use Rattle.wire.specs.declared.Written.{Written}
 use Rattle.wire.specs.declared.Written.the-variants.{Refused as NotWritten}
 use Rattle.wire.proofs.Writing.{stores-refused}
 use Rattle.aes.specs.Cipher.{from}
-use Rattle.aes.proofs.Filled.{filled}
+use Rattle.aes.proofs.Filled.{places}
 use Rattle.aes.proofs.Cipher.{length-cipher}
 use Rattle.session.specs.Session.{withData}
 use Rattle.session.specs.declared.Connection.{Connection}
@@ -22,10 +22,6 @@ use Rattle.session.specs.declared.Key.{Key}
 use Rattle.session_data.specs.SessionData.{dataText, dataImage, writeRules, WritesData, textOf, nonceIn, validationIn, textRules, readRules, judged, dataRead, readNumber, ReadsData}
 use Rattle.session_data.specs.declared.DataAnswer.the-variants.{Accepted, Refused}
 use Rattle.session_data.specs.declared.DataRead.{DataRead}
-
--- bytes by their places
-pub places : (n : ℕ) (s : List ℕ) → length s ≡ n → s ≡ from (λ i. getD s i 0) 0 n
-places n s e = filled (λ i. getD s i 0) 0 s n e (λ k h. refl)
 
 pub text-is : (nonce validation : List ℕ) → length nonce ≡ 5 → length validation ≡ 4
     → dataText nonce validation
@@ -41,21 +37,24 @@ pub validation-is : (text : List ℕ) → length text ≡ 16 → validationIn te
 unfolding from
 validation-is text e = ap validationIn (places 16 text e)
 
+pub length-image : (key nonce validation : List ℕ) → length (dataImage key nonce validation) ≡ 16
+unfolding dataImage
+length-image key nonce validation = length-cipher key (dataText nonce validation)
+
 -- ---- the writer
 module _ (key : Key) (nonce validation room : List ℕ) where
   abbrev image : List ℕ
   image = dataImage (key .bytes) nonce validation
 
-  length-image : length image ≡ 16
-  unfolding dataImage
-  length-image = length-cipher (key .bytes) (dataText nonce validation)
+  sixteen : length image ≡ 16
+  sixteen = length-image (key .bytes) nonce validation
 
   pub short-room : length room < 16 → WritesData key nonce validation room (NotWritten 25) room
-  short-room h = stores-refused 0 image room (writeRules key image room) 24 (rw (lt-ltb (length room) (0 + length image) (omega (arith, length-image))))
+  short-room h = stores-refused 0 image room (writeRules key image room) 24 (rw (lt-ltb (length room) (0 + length image) (omega (arith, sixteen))))
 
   pub no-key : 16 ≤ length room → key .held ≡ false → WritesData key nonce validation room (NotWritten 10) room
   no-key h e =
-      stores-refused 0 image room (writeRules key image room) 9 (rw (le-ltb (length room) (0 + length image) (omega (arith, length-image)), e))
+      stores-refused 0 image room (writeRules key image room) 9 (rw (le-ltb (length room) (0 + length image) (omega (arith, sixteen)), e))
 
   pub with-key : {answer : Written} {after block : List ℕ} → key .held ≡ true → block ≡ image → Stores (noRoom 0 block room ∷ []) 0 block room answer after
       → WritesData key nonce validation room answer after

@@ -19,7 +19,7 @@ use Rattle.wire.proofs.Writers.{wrote-held}
 use Rattle.aes.specs.Cipher.{from, cipher}
 use Rattle.aes.specs.Inverse.{SixteenBytes}
 use Rattle.aes.proofs.Bytes.{listed-bytes, append-bytes}
-use Rattle.aes.proofs.Cipher.{length-cipher}
+use Rattle.aes.proofs.Filled.{places}
 use Rattle.aes.proofs.Inverse.{under-key, both-ways}
 use Rattle.session.specs.declared.Connection.{Connection}
 use Rattle.session.specs.declared.Key.{Key}
@@ -27,7 +27,7 @@ use Rattle.session_data.specs.SessionData.{dataText, dataImage, writeRul
 use Rattle.session_data.specs.RoundTrip.{Sized, connected, ReadsBack}
 use Rattle.session_data.specs.declared.DataAnswer.{DataAnswer}
 use Rattle.session_data.specs.declared.DataAnswer.the-variants.{Accepted, Refused}
-use Rattle.session_data.proofs.Judging.{places, text-is, judged-accepted, key-there}
+use Rattle.session_data.proofs.Judging.{text-is, length-image, judged-accepted, key-there}
 
 -- ---- the text of a session nonce and a validation key
 module _ (nonce validation : List ℕ) (z : Sized nonce validation) where
@@ -89,14 +89,10 @@ module _ (key : Key) (hk : SixteenBytes (key .bytes)) where
   unfolding dataImage
   text-back nonce validation z = both-ways (key .bytes) hk .deciphered (dataText nonce validation) (text-sixteen nonce validation z)
 
-  length-image : (nonce validation : List ℕ) → length (dataImage (key .bytes) nonce validation) ≡ 16
-  unfolding dataImage
-  length-image nonce validation = length-cipher (key .bytes) (dataText nonce validation)
-
   reads : (nonce validation : List ℕ) → Sized nonce validation → key .held ≡ true → (old : Connection)
       → dataRead key old (dataImage (key .bytes) nonce validation) ≡ connected old nonce validation
   reads nonce validation z e old =
-      sym (key-there key old (dataImage (key .bytes) nonce validation) (length-image nonce validation) e)
+      sym (key-there key old (dataImage (key .bytes) nonce validation) (length-image (key .bytes) nonce validation) e)
       ∙ ap (λ (t : List ℕ). judged (textRules t) old t) (text-back nonce validation z)
       ∙ sym (judged-accepted (textRules (dataText nonce validation)) old (dataText nonce validation) (sym (text-rules nonce validation z)))
       ∙ ap₂ (connected old) (nonce-back nonce validation z) (validation-back nonce validation z)

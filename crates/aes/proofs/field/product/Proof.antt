@@ -6,7 +6,7 @@ use lib.Bits.{bitXor, xor-zero-r}
 use borrow.Author.Needs.{needs}
 use Rattle.wire.proofs.Xor.{xor-assoc}
 use Rattle.aes.specs.Field.{_⊕_, times, _•_}
-use Rattle.aes.proofs.Turns.{digit-byte, times-step}
+use Rattle.aes.proofs.Turns.{digit-fits, times-step}
 use Rattle.aes.proofs.field.product.Statement.{statement}
 use Rattle.aes.proofs.field.product.Tie as tie
 
@@ -46,7 +46,7 @@ product-spec =
     Inv-loop
     μ-loop
     loop-holds
-    (λ c. record { fits = digit-byte (c .before .loop .digits) (c .before .loop .x) (c .before .loop .inv .0) })
+    (λ c. record { fits = digit-fits (c .before .loop .digits) (c .before .loop .x) (c .before .loop .inv .0) })
     (λ c κs. search needs)
     (λ c. search needs)
     (λ c. search needs)
