@@ -1,5 +1,6 @@
 #!/usr/bin/env python3
-"""Writes the cases of crates/session_data_cases, its stdin, and what it must print for them, its stdout. AES-128 ECB is that of the package `cryptography`; layout, refusals and their order come from document 02 §3, byte order, keys and room from document 01.
+"""Writes the cases of crates/session_data_cases, its stdin, and what it must print for them, its stdout. AES-128 ECB is that of the
+package `cryptography`; layout, refusals and their order come from document 02 §3, byte order, keys and room from document 01.
 
     python3 bench/session_data/outcomes.py [FOLDER]
 """
@@ -73,8 +74,9 @@ def outcome(line):
 NONCE, VALIDATION = "c1c2c3c4c5", "d6d7d8d9"
 HELD = ("held", "a1a2a3a4a5", "b6b7b8b9")
 OLD = {"old held": HELD, "old none": ("none", "0000000000", "00000000"), "old none with fields": ("none", "9192939495", "86878889")}
-PAIRS = {"zero": ("0000000000", "00000000"), "ff": ("ffffffffff", "ffffffff"), "zero and ff": ("0000000000", "ffffffff"), "ff and zero": ("ffffffffff", "00000000"),
-         "one to nine": ("0102030405", "06070809"), "mixed": ("7e5c00ff80", "05cafe00"), "validation key CAFEBABE": ("0500bebafe", "bebafeca")}
+PAIRS = {"zero": ("0000000000", "00000000"), "ff": ("ffffffffff", "ffffffff"), "zero and ff": ("0000000000", "ffffffff"),
+         "ff and zero": ("ffffffffff", "00000000"), "one to nine": ("0102030405", "06070809"), "mixed": ("7e5c00ff80", "05cafe00"),
+         "validation key CAFEBABE": ("0500bebafe", "bebafeca")}
 
 
 def cases_of(mode):
@@ -120,7 +122,8 @@ def cases_of(mode):
         yield reading(f"block under {letter}", block(letter))  # 11: another key, though held
     for bit in (0, 7, 8, 15, 16, 23, 24, 31):  # two in each byte
         yield reading(f"CAFEBABE bit {bit} wrong", block(check=(0xCAFEBABE ^ 1 << bit).to_bytes(4, "little").hex()))
-    for name, check in {"the other way round": "cafebabe", "halves swapped": "fecabeba", "bytes of halves swapped": "babecafe", "zero": "00000000", "the held validation key": HELD[2]}.items():
+    for name, check in {"the other way round": "cafebabe", "halves swapped": "fecabeba", "bytes of halves swapped": "babecafe", "zero": "00000000",
+                        "the held validation key": HELD[2]}.items():
         yield reading(f"CAFEBABE {name}", block(check=check))
     yield reading("plain block", text())
     yield reading("block by the inverse cipher", decipher(own, text()))
@@ -133,13 +136,15 @@ def cases_of(mode):
     for protocol in (0, 1, 6, 7, 13, 21, 37, 69, 133, 250, 255):  # 19
         yield reading(f"protocol {protocol}", block(protocol=protocol))
 
-    later = {"11": dict(check="cafebabe"), "13": dict(padding="0100"), "13 in the second byte": dict(padding="0001"), "19": dict(protocol=6), "19 by 0": dict(protocol=0)}
+    later = {"11": dict(check="cafebabe"), "13": dict(padding="0100"), "13 in the second byte": dict(padding="0001"), "19": dict(protocol=6),
+             "19 by 0": dict(protocol=0)}
     for n in (0, 15, 17, 32):  # two and more at once: the first in the order is given
         yield reading(f"7 and 10, length {n}", (2 * good)[:n], without)
     for name, fields in later.items():
         yield reading(f"7 and {name}", block(**fields) + bytes(1))
         yield reading(f"10 and {name}", block(**fields), without)
-    for first, second in (("11", "13"), ("11", "13 in the second byte"), ("11", "19"), ("11", "19 by 0"), ("13", "19"), ("13", "19 by 0"), ("13 in the second byte", "19")):
+    for first, second in (("11", "13"), ("11", "13 in the second byte"), ("11", "19"), ("11", "19 by 0"), ("13", "19"), ("13", "19 by 0"),
+                          ("13 in the second byte", "19")):
         yield reading(f"{first} and {second}", block(**later[first], **later[second]))
     yield reading("all of 7 to 19", block(check="bebafecb", padding="ffff", protocol=4) + bytes(1), without)
     for room in (0, 1, 15, 16, 17, 32, 40):  # 25, then 10

@@ -1,7 +1,7 @@
 -- One round more, one round key more, one round constant more, one digit and one inverse round less, counted as the code counts. Assumes nothing.
 use mathlib.Core.Path.{_≡_, sym}
 use mathlib.Core.List.{List, []}
-use Prim.Native.Nat.{ℕ, zero, suc, _+_, _-_, _*_, _/_, _%_, _<_}
+use Prim.Native.Nat.{ℕ, zero, suc, _+_, _-_, _*_, _/_, _%_, _≤_, _<_}
 use native.Mathlib.Nat.{not-suc-le-zero, zero-mul, one-mul}
 use native.Mathlib.Omega.{arith}
 use native.Mathlib.Numerals.{add-one, sub-one}
@@ -22,6 +22,10 @@ key-more key i = rw add-one
 pub rcon-more : (i : ℕ) → rcon (i + 1) ≡ xtime (rcon i)
 unfolding rcon
 rcon-more i = rw add-one
+
+-- none is left
+pub none-left : (n : ℕ) → n ≤ 0 → 0 ≡ n
+none-left n h = omega arith
 
 digit-is : (d a : ℕ) → d < 2 → digitTimes d a ≡ d * a
 digit-is d a h = bit (λ (d : ℕ). digitTimes d a ≡ d * a) (sym (zero-mul a)) (sym (one-mul a)) d h

@@ -44,7 +44,7 @@ printedBox =
     0x8c ∷ 0xa1 ∷ 0x89 ∷ 0x0d ∷ 0xbf ∷ 0xe6 ∷ 0x42 ∷ 0x68 ∷ 0x41 ∷ 0x99 ∷ 0x2d ∷ 0x0f ∷ 0xb0 ∷ 0x54 ∷ 0xbb ∷ 0x16 ∷ []
 
 -- ---- section 5.3.2: the substitution back
--- the affine step undone (proofs/Box: at all 256 bytes)
+-- the inverse of the affine step, for which no formula is given there (proofs/Box: the affine step undoes it at all 256 bytes)
 unfoldable pub invAffine : ℕ → ℕ
 invAffine b = turned 6 b ⊕ turned 3 b ⊕ turned 1 b ⊕ 0x05
 

@@ -15,6 +15,7 @@ pub record SixteenBytes (l : List ℕ) : Type 0 where
   pub sixteen : length l ≡ 16
   pub bytes : Bytes l
 
+-- under a key of 16 bytes
 pub record BothWays (key : List ℕ) : Type 0 where
   pub deciphered : (block : List ℕ) → SixteenBytes block → invCipher key (cipher key block) ≡ block
   pub enciphered : (block : List ℕ) → SixteenBytes block → cipher key (invCipher key block) ≡ block

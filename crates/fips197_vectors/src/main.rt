@@ -50,7 +50,7 @@ fn passed(group: &[u8], got: &[[u8; 16]]) -> usize
 }
 
 // The five values of a round, stored from a place on.
-fn store(all: &mut [[u8; 16]], at: usize, round: [[u8; 16]; 5])
+fn store_round(all: &mut [[u8; 16]], at: usize, round: [[u8; 16]; 5])
     requires { ⌜ at + 5 ≤ length (now all) ⌝ }
 {
     let mut i: usize = 0;
@@ -78,7 +78,7 @@ fn values(keys: &[[u8; 16]; 11], input: [u8; 16]) -> [[u8; 16]; 50] {
             aes::of_state(mixed),
             k,
         ];
-        store(&mut all, 5 * r, round);
+        store_round(&mut all, 5 * r, round);
         let next = aes::add_round_key(mixed, k);
         s = next;
         r += 1;
@@ -107,7 +107,7 @@ fn inv_values(keys: &[[u8; 16]; 11], input: [u8; 16]) -> [[u8; 16]; 51] {
             k,
             aes::of_state(added),
         ];
-        store(&mut all, 5 * r + 1, round);
+        store_round(&mut all, 5 * r + 1, round);
         let next = aes::inv_mix_columns(added);
         s = next;
         r += 1;

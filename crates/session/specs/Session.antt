@@ -28,6 +28,6 @@ wholeMinutes t = record { 0 = t .0 / 60 }
 abbrev pub noConnection : Connection
 noConnection = record { held = false; nonce = replicate 5 0; validation = replicate 4 0 }
 
--- after accepted session data (document 02 §3): session nonce and validation key
+-- after accepted session data (document 02 §3): its session nonce and validation key, nothing of the old
 abbrev pub withData : Connection → List ℕ → List ℕ → Connection
 withData c nonce validation = record { held = true; nonce = nonce; validation = validation }

@@ -19,7 +19,7 @@ use Rattle.aes.proofs.Cipher.{length-cipher}
 use Rattle.session.specs.Session.{withData}
 use Rattle.session.specs.declared.Connection.{Connection}
 use Rattle.session.specs.declared.Key.{Key}
-use Rattle.session_data.specs.SessionData.{dataText, dataImage, writeRules, WritesData, textOf, nonceIn, validationIn, textRules, readRules, judged, dataRead, readNumber, ReadsData}
+use Rattle.session_data.specs.SessionData.{dataText, dataImage, dataWriteRules, WritesData, textOf, nonceIn, validationIn, dataTextRules, dataReadRules, readBy, dataRead, readNumber, ReadsData}
 use Rattle.session_data.specs.declared.DataAnswer.the-variants.{Accepted, Refused}
 use Rattle.session_data.specs.declared.DataRead.{DataRead}
 
@@ -50,11 +50,11 @@ module _ (key : Key) (nonce validation room : List ℕ) where
   sixteen = length-image (key .bytes) nonce validation
 
   pub short-room : length room < 16 → WritesData key nonce validation room (NotWritten 25) room
-  short-room h = stores-refused 0 image room (writeRules key image room) 24 (rw (lt-ltb (length room) (0 + length image) (omega (arith, sixteen))))
+  short-room h = stores-refused 0 image room (dataWriteRules key image room) 24 (rw (lt-ltb (length room) (0 + length image) (omega (arith, sixteen))))
 
   pub no-key : 16 ≤ length room → key .held ≡ false → WritesData key nonce validation room (NotWritten 10) room
   no-key h e =
-      stores-refused 0 image room (writeRules key image room) 9 (rw (le-ltb (length room) (0 + length image) (omega (arith, sixteen)), e))
+      stores-refused 0 image room (dataWriteRules key image room) 9 (rw (le-ltb (length room) (0 + length image) (omega (arith, sixteen)), e))
 
   pub with-key : {answer : Written} {after block : List ℕ} → key .held ≡ true → block ≡ image → Stores (noRoom 0 block room ∷ []) 0 block room answer after
       → WritesData key nonce validation room answer after
@@ -69,34 +69,34 @@ pub stored-whole : {answer : Written} {block room after : List ℕ} → length b
 stored-whole {block} {room} e w =
     w .leaves ∙ rw (le-ltb (length room) (0 + length block) (omega arith), drop-of-length-le room {i = 0 + length block} (omega arith)) (append-nil block)
 
-pub judged-refused : (rules : List Rule) (old : Connection) (text : List ℕ) (n : ℕ) → n ≡ firstBroken rules → (n ≡ 0 → ⊥)
-    → record { answer = Refused n; connection = old } ≡ judged rules old text
-judged-refused rules old text zero e h = absurd (h refl)
-judged-refused rules old text (suc n) e h = rw (← e)
+pub by-refused : (rules : List Rule) (old : Connection) (text : List ℕ) (n : ℕ) → n ≡ firstBroken rules → (n ≡ 0 → ⊥)
+    → record { answer = Refused n; connection = old } ≡ readBy rules old text
+by-refused rules old text zero e h = absurd (h refl)
+by-refused rules old text (suc n) e h = rw (← e)
 
-pub judged-accepted : (rules : List Rule) (old : Connection) (text : List ℕ) → 0 ≡ firstBroken rules
-    → record { answer = Accepted; connection = withData old (nonceIn text) (validationIn text) } ≡ judged rules old text
-judged-accepted rules old text e = rw (← e)
+pub by-accepted : (rules : List Rule) (old : Connection) (text : List ℕ) → 0 ≡ firstBroken rules
+    → record { answer = Accepted; connection = withData old (nonceIn text) (validationIn text) } ≡ readBy rules old text
+by-accepted rules old text e = rw (← e)
 
 module _ (key : Key) (old : Connection) (block : List ℕ) where
   -- the number and the values follow
   pub reads-data : (r : DataRead) → r ≡ dataRead key old block → ReadsData key old block r
   unfolding dataRead
-  reads-data r e = record { number = ap (λ (r : DataRead). readNumber (r .answer) (r .connection)) e ∙ numbered (firstBroken (readRules key block)); reads = e }
+  reads-data r e = record { number = ap (λ (r : DataRead). readNumber (r .answer) (r .connection)) e ∙ numbered (firstBroken (dataReadRules key block)); reads = e }
     where
       numbered : (n : ℕ) → readNumber (verdict Refused n Accepted) (verdict (λ m. old) n (withData old (nonceIn (textOf key block)) (validationIn (textOf key block))))
           ≡ verdict refused n (accepted (nonceIn (textOf key block) ∷ validationIn (textOf key block) ∷ []))
       numbered zero = refl
       numbered (suc n) = refl
 
-  pub wrong-length : (length block ≡ 16 → ⊥) → 7 ≡ firstBroken (readRules key block)
-  unfolding readRules
+  pub wrong-length : (length block ≡ 16 → ⊥) → 7 ≡ firstBroken (dataReadRules key block)
+  unfolding dataReadRules
   wrong-length h = rw (ne-eqb (length block) 16 h)
 
-  pub key-absent : length block ≡ 16 → key .held ≡ false → 10 ≡ firstBroken (readRules key block)
-  unfolding readRules
+  pub key-absent : length block ≡ 16 → key .held ≡ false → 10 ≡ firstBroken (dataReadRules key block)
+  unfolding dataReadRules
   key-absent l e = rw (eq-eqb (length block) 16 l, e)
 
-  pub key-there : length block ≡ 16 → key .held ≡ true → judged (textRules (textOf key block)) old (textOf key block) ≡ dataRead key old block
-  unfolding readRules dataRead
+  pub key-there : length block ≡ 16 → key .held ≡ true → readBy (dataTextRules (textOf key block)) old (textOf key block) ≡ dataRead key old block
+  unfolding dataReadRules dataRead
   key-there l e = rw (eq-eqb (length block) 16 l, e)

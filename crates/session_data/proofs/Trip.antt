@@ -23,11 +23,11 @@ use Rattle.aes.proofs.Filled.{places}
 use Rattle.aes.proofs.Inverse.{under-key, both-ways}
 use Rattle.session.specs.declared.Connection.{Connection}
 use Rattle.session.specs.declared.Key.{Key}
-use Rattle.session_data.specs.SessionData.{dataText, dataImage, writeRules, WritesData, textOf, nonceIn, validationIn, textRules, readRules, judged, dataRead}
+use Rattle.session_data.specs.SessionData.{dataText, dataImage, dataWriteRules, WritesData, textOf, nonceIn, validationIn, dataTextRules, dataReadRules, readBy, dataRead}
 use Rattle.session_data.specs.RoundTrip.{Sized, connected, ReadsBack}
 use Rattle.session_data.specs.declared.DataAnswer.{DataAnswer}
 use Rattle.session_data.specs.declared.DataAnswer.the-variants.{Accepted, Refused}
-use Rattle.session_data.proofs.Judging.{text-is, length-image, judged-accepted, key-there}
+use Rattle.session_data.proofs.Judging.{text-is, length-image, by-accepted, key-there}
 
 -- ---- the text of a session nonce and a validation key
 module _ (nonce validation : List ℕ) (z : Sized nonce validation) where
@@ -44,9 +44,9 @@ module _ (nonce validation : List ℕ) (z : Sized nonce validation) where
             (append-bytes nonce (validation ++ (0 ∷ 0 ∷ [])) (z .nonce-bytes) (append-bytes validation (0 ∷ 0 ∷ []) (z .validation-bytes) (listed-bytes (0 ∷ 0 ∷ []) 0 tt)));
       }
 
-  text-rules : firstBroken (textRules (dataText nonce validation)) ≡ 0
-  unfolding textRules from
-  text-rules = ap (λ (t : List ℕ). firstBroken (textRules t)) fields
+  text-rules : firstBroken (dataTextRules (dataText nonce validation)) ≡ 0
+  unfolding dataTextRules from
+  text-rules = ap (λ (t : List ℕ). firstBroken (dataTextRules t)) fields
 
   nonce-back : nonceIn (dataText nonce validation) ≡ nonce
   unfolding from
@@ -63,10 +63,10 @@ unfolding from
 cut t e = places 16 t e ∙ sym (ap (λ (t : List ℕ). take 4 t ++ (getD t 4 0 ∷ (nonceIn t ++ (validationIn t ++ take 2 (drop 14 t))))) (places 16 t e))
 
 -- one that breaks no rule is that of its own fields
-text-made : (t : List ℕ) → SixteenBytes t → firstBroken (textRules t) ≡ 0 → dataText (nonceIn t) (validationIn t) ≡ t
-unfolding textRules dataText
+text-made : (t : List ℕ) → SixteenBytes t → firstBroken (dataTextRules t) ≡ 0 → dataText (nonceIn t) (validationIn t) ≡ t
+unfolding dataTextRules dataText
 text-made t h e =
-    let r = held (textRules t) (tt, (tt, (tt, tt))) e in
+    let r = held (dataTextRules t) (tt, (tt, (tt, tt))) e in
     let n : num 4 0 t ≡ 0xCAFEBABE = eqb-true (num 4 0 t) 0xCAFEBABE (not-false _ (r .0)) in
     let z : num 2 14 t ≡ 0 = eqb-true (num 2 14 t) 0 (not-false _ (r .1 .0)) in
     let p : getD t 4 0 ≡ 5 = eqb-true (getD t 4 0) 5 (not-false _ (r .1 .1 .0)) in
@@ -76,8 +76,8 @@ text-made t h e =
 
 -- ---- numbers
 -- the writer never gives 17
-pub write-never : (key : Key) (image room : List ℕ) → firstBroken (writeRules key image room) ≡ 17 → ⊥
-write-never key image room = never (writeRules key image room) 16 refl
+pub write-never : (key : Key) (image room : List ℕ) → firstBroken (dataWriteRules key image room) ≡ 17 → ⊥
+write-never key image room = never (dataWriteRules key image room) 16 refl
 
 accepts : DataAnswer → Bool
 accepts Accepted = true
@@ -93,15 +93,15 @@ module _ (key : Key) (hk : SixteenBytes (key .bytes)) where
       → dataRead key old (dataImage (key .bytes) nonce validation) ≡ connected old nonce validation
   reads nonce validation z e old =
       sym (key-there key old (dataImage (key .bytes) nonce validation) (length-image (key .bytes) nonce validation) e)
-      ∙ ap (λ (t : List ℕ). judged (textRules t) old t) (text-back nonce validation z)
-      ∙ sym (judged-accepted (textRules (dataText nonce validation)) old (dataText nonce validation) (sym (text-rules nonce validation z)))
+      ∙ ap (λ (t : List ℕ). readBy (dataTextRules t) old t) (text-back nonce validation z)
+      ∙ sym (by-accepted (dataTextRules (dataText nonce validation)) old (dataText nonce validation) (sym (text-rules nonce validation z)))
       ∙ ap₂ (connected old) (nonce-back nonce validation z) (validation-back nonce validation z)
 
   wrote : (nonce validation : List ℕ) → Sized nonce validation → (room after : List ℕ) (answer : Written) (n : ℕ)
       → WritesData key nonce validation room answer after → answer ≡ Wrote n → (old : Connection) → dataRead key old (take n after) ≡ connected old nonce validation
   wrote nonce validation z room after answer n w e old =
       let d = wrote-held n w e in
-      let h = held (writeRules key (dataImage (key .bytes) nonce validation) room) (tt, (tt, tt)) (d .0) in
+      let h = held (dataWriteRules key (dataImage (key .bytes) nonce validation) room) (tt, (tt, tt)) (d .0) in
       ap (dataRead key old) (d .1) ∙ reads nonce validation z (not-false (key .held) (h .1 .0)) old
 
   apart : (nonce validation nonce′ validation′ : List ℕ) → Sized nonce validation → Sized nonce′ validation′
@@ -115,11 +115,11 @@ module _ (key : Key) (hk : SixteenBytes (key .bytes)) where
 
   writes : (old : Connection) (block : List ℕ) → SixteenBytes block → dataRead key old block .answer ≡ Accepted
       → dataImage (key .bytes) (nonceIn (textOf key block)) (validationIn (textOf key block)) ≡ block
-  unfolding dataImage dataRead readRules accepts
+  unfolding dataImage dataRead dataReadRules accepts
   writes old block h e =
       let t : List ℕ = textOf key block in
-      let n : firstBroken (readRules key block) ≡ 0 = good-exactly accepts Refused (readRules key block) Accepted (λ n. refl) refl .only (ap accepts e) in
-      let r : firstBroken (textRules t) ≡ 0 = none-append ((7 when not (eqb (length block) 16)) ∷ (10 when not (key .held)) ∷ []) (textRules t) n .1 in
+      let n : firstBroken (dataReadRules key block) ≡ 0 = good-exactly accepts Refused (dataReadRules key block) Accepted (λ n. refl) refl .only (ap accepts e) in
+      let r : firstBroken (dataTextRules t) ≡ 0 = none-append ((7 when not (eqb (length block) 16)) ∷ (10 when not (key .held)) ∷ []) (dataTextRules t) n .1 in
       ap (cipher (key .bytes)) (text-made t (under-key (key .bytes) (hk .bytes) .back .keeps block h) r) ∙ both-ways (key .bytes) hk .enciphered block h
 
   pub reads-back : ReadsBack key

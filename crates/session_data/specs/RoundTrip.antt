@@ -25,7 +25,7 @@ pub record Sized (nonce validation : List ℕ) : Type 0 where
 abbrev pub connected : Connection → List ℕ → List ℕ → DataRead
 connected old nonce validation = record { answer = Accepted; connection = withData old nonce validation }
 
--- under a key of 16 bytes, whatever connection session was there
+-- under a key of 16 bytes, so in either mode under `dataKey keys mode`, whatever connection session was there
 pub record ReadsBack (key : Key) : Type 0 where
   -- the block that is made of them, where the key is held
   pub reads :

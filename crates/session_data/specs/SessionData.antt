@@ -37,13 +37,13 @@ unfoldable pub dataImage : List ℕ → List ℕ → List ℕ → List ℕ
 dataImage key nonce validation = cipher key (dataText nonce validation)
 
 -- 'Room': 25, then 10 where the reader would. No 17: its reader refuses no session nonce and no validation key
-abbrev pub writeRules : Key → List ℕ → List ℕ → List Rule
-writeRules key image room = noRoom 0 image room ∷ (10 when not (key .held)) ∷ []
+abbrev pub dataWriteRules : Key → List ℕ → List ℕ → List Rule
+dataWriteRules key image room = noRoom 0 image room ∷ (10 when not (key .held)) ∷ []
 
 abbrev pub WritesData : Key → List ℕ → List ℕ → List ℕ → Written → List ℕ → Type 0
 WritesData key nonce validation room answer after =
     let image : List ℕ = dataImage (key .bytes) nonce validation in
-    Stores (writeRules key image room) 0 image room answer after
+    Stores (dataWriteRules key image room) 0 image room answer after
 
 -- ---- reading
 -- the block deciphered
@@ -57,30 +57,30 @@ abbrev pub validationIn : List ℕ → List ℕ
 validationIn text = take 4 (drop 10 text)
 
 -- 13 is for the last two bytes
-unfoldable pub textRules : List ℕ → List Rule
-textRules text =
+unfoldable pub dataTextRules : List ℕ → List Rule
+dataTextRules text =
     (11 when not (eqb (num 4 0 text) 0xCAFEBABE))
     ∷ (13 when not (eqb (num 2 14 text) 0))
     ∷ (19 when not (eqb (num 1 4 text) 5))
     ∷ []
 
 -- in this order
-unfoldable pub readRules : Key → List ℕ → List Rule
-readRules key block =
+unfoldable pub dataReadRules : Key → List ℕ → List Rule
+dataReadRules key block =
     (7 when not (eqb (length block) 16))
     ∷ (10 when not (key .held))
-    ∷ textRules (textOf key block)
+    ∷ dataTextRules (textOf key block)
 
--- an accepted block makes a connection session; a refused one leaves the old
-abbrev pub judged : List Rule → Connection → List ℕ → DataRead
-judged rules old text =
+-- by the first broken rule: an accepted block makes a connection session; a refused one leaves the old
+abbrev pub readBy : List Rule → Connection → List ℕ → DataRead
+readBy rules old text =
     record {
       answer = judge Refused rules Accepted;
       connection = judge (λ n. old) rules (withData old (nonceIn text) (validationIn text));
     }
 
 unfoldable pub dataRead : Key → Connection → List ℕ → DataRead
-dataRead key old block = judged (readRules key block) old (textOf key block)
+dataRead key old block = readBy (dataReadRules key block) old (textOf key block)
 
 -- the numbers: the session nonce and the validation key of the connection after it, or the refusal's number
 abbrev pub readNumber : DataAnswer → Connection → Judged (List (List ℕ)) ℕ
@@ -91,6 +91,6 @@ readNumber (Refused n) c = refused n
 pub record ReadsData (key : Key) (old : Connection) (block : List ℕ) (r : DataRead) : Type 0 where
   pub number :
       readNumber (r .answer) (r .connection)
-      ≡ judge refused (readRules key block) (accepted (nonceIn (textOf key block) ∷ validationIn (textOf key block) ∷ []))
+      ≡ judge refused (dataReadRules key block) (accepted (nonceIn (textOf key block) ∷ validationIn (textOf key block) ∷ []))
   -- the answer by the cases of the enum, and every field of the connection after it
   pub reads : r ≡ dataRead key old block

@@ -10,7 +10,7 @@ ghost use Rattle.wire.specs.Rules.{firstBroken};
 ghost use Rattle.aes.specs.Cipher.{cipher};
 ghost use Rattle.aes.specs.InvCipher.{invCipher};
 ghost use Rattle.session.specs.Session.{withData};
-ghost use Rattle.session_data.specs.SessionData.{dataKey, dataText, WritesData, nonceIn, validationIn, textRules, judged, ReadsData};
+ghost use Rattle.session_data.specs.SessionData.{dataKey, dataText, WritesData, nonceIn, validationIn, dataTextRules, readBy, ReadsData};
 
 // What a block gives: a connection session, or a refusal's number.
 pub enum DataAnswer {
@@ -42,6 +42,7 @@ fn data_key(keys: Keys, mode: Mode) -> Key
 
 // ---- writing
 
+// The block before it is enciphered.
 fn text(nonce: [u8; 5], validation: [u8; 4]) -> [u8; 16]
     ensures { λ r. ⌜ r ≡ dataText nonce validation ⌝ }
 {
@@ -65,6 +66,7 @@ fn text(nonce: [u8; 5], validation: [u8; 4]) -> [u8; 16]
     ]
 }
 
+// ECB: the block by itself.
 fn encipher(key: [u8; 16], block: [u8; 16]) -> [u8; 16]
     ensures { λ r. ⌜ r ≡ cipher key block ⌝ }
 {
@@ -106,9 +108,9 @@ fn decipher(key: [u8; 16], block: &[u8]) -> [u8; 16]
     aes::decrypt_block(&keys, bytes)
 }
 
-// 11, 13 and 19, of the block deciphered; 0 where none applies.
-fn judge_text(text: &[u8]) -> u8
-    ensures { λ r. ⌜ r ≡ firstBroken (textRules (now (text .entry))) ⌝ }
+// 11, 13 and 19, of a block deciphered; 0 where none applies.
+fn judge_data(text: &[u8]) -> u8
+    ensures { λ r. ⌜ r ≡ firstBroken (dataTextRules (now (text .entry))) ⌝ }
 {
     if wire::read_u32(text, 0) != 0xCAFEBABE {
         return 11;
@@ -143,9 +145,9 @@ fn refused(number: u8, old: Connection) -> DataRead
 
 // A block deciphered: 11, 13, 19.
 fn read_text(old: Connection, text: [u8; 16]) -> DataRead
-    ensures { λ r. ⌜ r ≡ judged (textRules text) old text ⌝ }
+    ensures { λ r. ⌜ r ≡ readBy (dataTextRules text) old text ⌝ }
 {
-    let number = judge_text(&text);
+    let number = judge_data(&text);
     if number != 0 {
         return refused(number, old);
     }

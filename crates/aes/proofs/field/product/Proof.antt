@@ -1,12 +1,11 @@
 -- `aes::field::product` meets its contract. Invariant: what is summed up, and the product by the digits that are left, are the product. Assumes nothing.
 use mathlib.Core.Path.{_≡_, _∙_, refl, sym, ap}
-use Prim.Native.Nat.{ℕ, _-_, _*_, _/_, _%_, _≤_, _<_}
-use native.Mathlib.Omega.{arith}
+use Prim.Native.Nat.{ℕ, _-_, _*_, _/_, _%_, _<_}
 use lib.Bits.{bitXor, xor-zero-r}
 use borrow.Author.Needs.{needs}
 use Rattle.wire.proofs.Xor.{xor-assoc}
 use Rattle.aes.specs.Field.{_⊕_, times, _•_}
-use Rattle.aes.proofs.Turns.{digit-fits, times-step}
+use Rattle.aes.proofs.Turns.{none-left, digit-fits, times-step}
 use Rattle.aes.proofs.field.product.Statement.{statement}
 use Rattle.aes.proofs.field.product.Tie as tie
 
@@ -30,14 +29,11 @@ loop-again c =
           ∙ l .inv .1,
     )
 
-none : (n : ℕ) → n ≤ 0 → 0 ≡ n
-none n h = omega arith
-
 returns : tie.Need-returns Inv-loop μ-loop
 unfolding times
 returns c =
     let l = c .before .loop in
-    sym (xor-zero-r (l .sum)) ∙ ap (λ (n : ℕ). l .sum ⊕ times n (l .digits) (l .x)) (none (l .left) (c .loop-test .left)) ∙ l .inv .1
+    sym (xor-zero-r (l .sum)) ∙ ap (λ (n : ℕ). l .sum ⊕ times n (l .digits) (l .x)) (none-left (l .left) (c .loop-test .left)) ∙ l .inv .1
 
 pub product-spec : {M : Type 1} → statement M
 product-spec =

@@ -2,12 +2,11 @@
 use mathlib.Core.Path.{_≡_, _∙_, ap, sym, refl}
 use mathlib.Core.List.{List, []}
 use Prim.Native.Nat.{ℕ, _≤_, _-_}
-use native.Mathlib.Omega.{arith}
 use lib.ListN.{getD}
 use borrow.Author.Needs.{needs}
 use Rattle.aes.specs.Cipher.{addRoundKey, ofState}
 use Rattle.aes.specs.InvCipher.{invCipherUnder, invRound, invRounds, invSubBytes, invShiftRows, invMixColumns}
-use Rattle.aes.proofs.Turns.{inv-rounds-step}
+use Rattle.aes.proofs.Turns.{none-left, inv-rounds-step}
 use Rattle.aes.proofs.inv_cipher.decrypt_block.Statement.{statement}
 use Rattle.aes.proofs.inv_cipher.decrypt_block.Tie as tie
 
@@ -33,10 +32,7 @@ loop-again c =
 
 none : (keys s s₀ : List (List ℕ)) (i : ℕ) → i ≤ 0 → invRounds keys s i ≡ invRounds keys s₀ 9 → s ≡ invRounds keys s₀ 9
 unfolding invRounds
-none keys s s₀ i h e = ap (invRounds keys s) (zero-is i h) ∙ e
-  where
-    zero-is : (i : ℕ) → i ≤ 0 → 0 ≡ i
-    zero-is i h = omega arith
+none keys s s₀ i h e = ap (invRounds keys s) (none-left i h) ∙ e
 
 returns : tie.Need-returns Inv-loop μ-loop
 unfolding invCipherUnder
