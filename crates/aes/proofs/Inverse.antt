@@ -7,14 +7,13 @@ use lib.ListN.{getD}
 use Rattle.wire.proofs.Xor.{xor-twice}
 use Rattle.aes.specs.Field.{_⊕_}
 use Rattle.aes.specs.Box.{subByte, invSubByte}
-use Rattle.aes.specs.Cipher.{cell, four, rows, columns, from, toState, ofState, subBytes, shiftRows, mixed, mixColumns, addRoundKey, round, rounds, keyExpansion, cipherUnder, cipher}
+use Rattle.aes.specs.Cipher.{cell, rows, columns, from, toState, ofState, subBytes, shiftRows, mixed, mixColumns, addRoundKey, round, rounds, keyExpansion, cipherUnder, cipher}
 use Rattle.aes.specs.InvCipher.{invSubBytes, invShiftRows, invMixed, invMixColumns, invRound, invRounds, invCipherUnder, invCipher}
 use Rattle.aes.specs.Inverse.{Bytes, SixteenBytes, BothWays}
 use Rattle.aes.proofs.Box.{inv-sub, sub-inv}
 use Rattle.aes.proofs.Bytes.{xor-byte, sub-byte, inv-sub-byte, mixed-byte, inv-mixed-byte, rows-bytes, state-bytes, expansion-bytes}
-use Rattle.aes.proofs.Cells.{by-four}
 use Rattle.aes.proofs.Filled.{places}
-use Rattle.aes.proofs.Linear.{unmixed, remixed}
+use Rattle.aes.proofs.Columns.{unmixed, remixed}
 use Rattle.aes.proofs.Undoing.{Undone, Inverses, reversed, behind}
 
 -- four rows of four bytes
@@ -47,21 +46,14 @@ shift =
 
 -- a step on each column
 module _ (f g : ℕ → ℕ → ℕ → ℕ → ℕ) (byte : (a b c d : ℕ) → a < 256 → b < 256 → c < 256 → d < 256 → f a b c d < 256)
-    (undo : (a b c d : ℕ) → g (f a b c d) (f b c d a) (f c d a b) (f d a b c) ≡ a) where
-  column-undone : (s : List (List ℕ)) → columns g (columns f s) ≡ rows (cell s)
-  column-undone s =
-      by-four (λ i. four (λ c. undo (cell s 0 c) (cell s 1 c) (cell s 2 c) (cell s 3 c) i))
-      (λ i. four (λ c. undo (cell s 1 c) (cell s 2 c) (cell s 3 c) (cell s 0 c) i))
-      (λ i. four (λ c. undo (cell s 2 c) (cell s 3 c) (cell s 0 c) (cell s 1 c) i))
-      (λ i. four (λ c. undo (cell s 3 c) (cell s 0 c) (cell s 1 c) (cell s 2 c) i))
-
+    (undo : (s : List (List ℕ)) → columns g (columns f s) ≡ rows (cell s)) where
   columns-undone : Undone State State (columns f) (columns g)
   columns-undone =
       record {
         keeps = λ s h.
             in-rows (λ r c. f (cell s r c) (cell s ((r + 1) % 4) c) (cell s ((r + 2) % 4) c) (cell s ((r + 3) % 4) c))
             (λ r c. byte _ _ _ _ (h .bytes r c) (h .bytes ((r + 1) % 4) c) (h .bytes ((r + 2) % 4) c) (h .bytes ((r + 3) % 4) c));
-        back = λ s h. column-undone s ∙ h .whole;
+        back = λ s h. undo s ∙ h .whole;
       }
 
 mix : Inverses State State mixColumns invMixColumns

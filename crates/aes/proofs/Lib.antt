@@ -4,6 +4,7 @@ pub mod Linear
 pub mod Bytes
 pub mod Box
 pub mod Cells
+pub mod Columns
 pub mod Filled
 pub mod Turns
 pub mod Cipher

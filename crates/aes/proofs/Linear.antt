@@ -1,5 +1,4 @@
--- Multiplication by a constant distributes over the sum, on all numbers; the products of MixColumns and InvMixColumns by xtime, and why each step undoes
--- the other. Assumes nothing.
+-- Multiplication by a constant distributes over the sum, on all numbers; the products of MixColumns and InvMixColumns by xtime. Assumes nothing.
 use mathlib.Core.Path.{_≡_, refl, sym, ap, ap₂, _∙_}
 use Prim.Native.Nat.{ℕ, zero, suc, _*_, _/_, _%_, _<_}
 use native.Mathlib.Nat.{add-zero, zero-lt-suc}
@@ -9,7 +8,7 @@ use Rattle.wire.proofs.Xor.{bit, xor-swap, xor-assoc}
 use Rattle.aes.specs.Field.{_⊕_, xtime, digitTimes, times, _•_}
 use Rattle.aes.specs.Cipher.{mixed}
 use Rattle.aes.specs.InvCipher.{invMixed}
-use Rattle.aes.proofs.Mixing.{unmix, unmix-mix, mix-unmix}
+use Rattle.aes.proofs.Mixing.{unmix}
 
 twice-xor : (a b : ℕ) → (a ⊕ b) * 2 ≡ a * 2 ⊕ b * 2
 twice-xor a b =
@@ -77,19 +76,6 @@ pub mixed-is : (a b c d : ℕ) → mixed a b c d ≡ xtime a ⊕ (b ⊕ xtime b)
 unfolding mixed
 mixed-is a b c d = λ i. mul-two a i ⊕ mul-three b i ⊕ c ⊕ d
 
-inv-mixed-is : (a b c d : ℕ) → invMixed a b c d ≡ unmix bitXor 0 xtime xor-assoc xor-comm xor-self xor-zero-r xtime-xor a b c d
+pub inv-mixed-is : (a b c d : ℕ) → invMixed a b c d ≡ unmix bitXor 0 xtime xor-assoc xor-comm xor-self xor-zero-r xtime-xor a b c d
 unfolding invMixed
 inv-mixed-is a b c d = λ i. mul-fourteen a i ⊕ mul-eleven b i ⊕ mul-thirteen c i ⊕ mul-nine d i
-
--- ---- one byte of InvMixColumns behind MixColumns, and of MixColumns behind InvMixColumns
-pub unmixed : (a b c d : ℕ) → invMixed (mixed a b c d) (mixed b c d a) (mixed c d a b) (mixed d a b c) ≡ a
-unmixed a b c d =
-    (λ i. invMixed (mixed-is a b c d i) (mixed-is b c d a i) (mixed-is c d a b i) (mixed-is d a b c i))
-    ∙ inv-mixed-is _ _ _ _
-    ∙ unmix-mix bitXor 0 xtime xor-assoc xor-comm xor-self xor-zero-r xtime-xor a b c d
-
-pub remixed : (a b c d : ℕ) → mixed (invMixed a b c d) (invMixed b c d a) (invMixed c d a b) (invMixed d a b c) ≡ a
-remixed a b c d =
-    (λ i. mixed (inv-mixed-is a b c d i) (inv-mixed-is b c d a i) (inv-mixed-is c d a b i) (inv-mixed-is d a b c i))
-    ∙ mixed-is _ _ _ _
-    ∙ mix-unmix bitXor 0 xtime xor-assoc xor-comm xor-self xor-zero-r xtime-xor a b c d

@@ -1,5 +1,5 @@
--- Why InvMixColumns undoes MixColumns, and MixColumns it: over any sum in which each element is its own negative, and any additive `t`, which stands for
--- multiplication by x. Assumes nothing.
+-- Why MixColumns four times changes nothing, and three times is InvMixColumns: over any sum in which each element is its own negative, and any additive `t`,
+-- which stands for multiplication by x. Assumes nothing.
 use mathlib.Core.Path.{_≡_, _∙_, sym, ap}
 
 module _ {A : Type 0} (_⊕_ : A → A → A) (o : A) (t : A → A)
@@ -23,8 +23,15 @@ module _ {A : Type 0} (_⊕_ : A → A → A) (o : A) (t : A → A)
   abbrev pub unmix : A → A → A → A → A
   unmix a b c d = t a ⊕ (t (t a) ⊕ t (t (t a))) ⊕ (b ⊕ (t b ⊕ t (t (t b)))) ⊕ (c ⊕ (t (t c) ⊕ t (t (t c)))) ⊕ (d ⊕ t (t (t d)))
 
-  pub unmix-mix : (a b c d : A) → unmix (mix a b c d) (mix b c d a) (mix c d a b) (mix d a b c) ≡ a
-  unmix-mix a b c d = simp (add, assoc, comm, swap, self, cancel, unit-l)
+  -- mixed twice: 5 a + 4 c
+  abbrev pub twice : A → A → A
+  twice a c = a ⊕ t (t a) ⊕ t (t c)
 
-  pub mix-unmix : (a b c d : A) → mix (unmix a b c d) (unmix b c d a) (unmix c d a b) (unmix d a b c) ≡ a
-  mix-unmix a b c d = simp (add, assoc, comm, swap, self, cancel, unit-l)
+  pub mix-mix : (a b c d : A) → mix (mix a b c d) (mix b c d a) (mix c d a b) (mix d a b c) ≡ twice a c
+  mix-mix a b c d = simp (add, assoc, comm, swap, cancel)
+
+  pub mix-twice : (a b c d : A) → mix (twice a c) (twice b d) (twice c a) (twice d b) ≡ unmix a b c d
+  mix-twice a b c d = simp (add, assoc, comm, swap, cancel)
+
+  pub twice-twice : (a c : A) → twice (twice a c) (twice c a) ≡ a
+  twice-twice a c = simp (add, assoc, comm, swap, self, cancel, unit-l)

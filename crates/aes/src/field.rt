@@ -11,7 +11,7 @@ pub fn xtime(b: u8) -> u8
 }
 
 // The product of two bytes.
-pub fn product(k: u8, a: u8) -> u8
+fn product(k: u8, a: u8) -> u8
     ensures { λ r. ⌜ r ≡ k • a ⌝ }
 {
     let mut sum: u8 = 0;

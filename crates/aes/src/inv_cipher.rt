@@ -1,15 +1,14 @@
 // The inverse cipher: FIPS 197, section 5.3. Its box is worked out and not a table: a block of session data is all that is deciphered so.
 use super::field::inverse;
-use super::field::product;
 use super::steps::add_round_key;
+use super::steps::mix_columns;
 use super::steps::of_state;
 use super::steps::to_state;
 ghost use mathlib.Core.Path.{_≡_};
 ghost use lib.ListN.{getD};
-ghost use Rattle.aes.specs.Field.{_⊕_, _•_};
 ghost use Rattle.aes.specs.Box.{invSubByte};
 ghost use Rattle.aes.specs.Cipher.{four};
-ghost use Rattle.aes.specs.InvCipher.{invShiftRows, invSubBytes, invMixed, invMixColumns, invCipherUnder};
+ghost use Rattle.aes.specs.InvCipher.{invShiftRows, invSubBytes, invMixColumns, invCipherUnder};
 
 pub fn inv_shift_rows(s: [[u8; 4]; 4]) -> [[u8; 4]; 4]
     ensures { λ r. ⌜ r ≡ invShiftRows s ⌝ }
@@ -55,55 +54,11 @@ pub fn inv_sub_bytes(s: [[u8; 4]; 4]) -> [[u8; 4]; 4]
     ]
 }
 
-// A row times a byte.
-fn row_times(k: u8, a: [u8; 4]) -> [u8; 4]
-    ensures { λ r. ⌜ r ≡ four (λ c. k • getD a c 0) ⌝ }
-{
-    [
-        product(k, a[0]),
-        product(k, a[1]),
-        product(k, a[2]),
-        product(k, a[3]),
-    ]
-}
-
-// The sum of four rows.
-fn add_rows(a: [u8; 4], b: [u8; 4], c: [u8; 4], d: [u8; 4]) -> [u8; 4]
-    ensures { λ r. ⌜ r ≡ four (λ i. getD a i 0 ⊕ getD b i 0 ⊕ getD c i 0 ⊕ getD d i 0) ⌝ }
-{
-    [
-        a[0] ^ b[0] ^ c[0] ^ d[0],
-        a[1] ^ b[1] ^ c[1] ^ d[1],
-        a[2] ^ b[2] ^ c[2] ^ d[2],
-        a[3] ^ b[3] ^ c[3] ^ d[3],
-    ]
-}
-
-// One row of the columns mixed back, from the rows from there on.
-fn inv_mix_row(a: [u8; 4], b: [u8; 4], c: [u8; 4], d: [u8; 4]) -> [u8; 4]
-    ensures { λ r. ⌜ r ≡ four (λ i. invMixed (getD a i 0) (getD b i 0) (getD c i 0) (getD d i 0)) ⌝ }
-{
-    add_rows(
-        row_times(0x0e, a),
-        row_times(0x0b, b),
-        row_times(0x0d, c),
-        row_times(0x09, d),
-    )
-}
-
+// MixColumns four times changes nothing, so three times undo it once.
 pub fn inv_mix_columns(s: [[u8; 4]; 4]) -> [[u8; 4]; 4]
     ensures { λ r. ⌜ r ≡ invMixColumns s ⌝ }
 {
-    let a = s[0];
-    let b = s[1];
-    let c = s[2];
-    let d = s[3];
-    [
-        inv_mix_row(a, b, c, d),
-        inv_mix_row(b, c, d, a),
-        inv_mix_row(c, d, a, b),
-        inv_mix_row(d, a, b, c),
-    ]
+    mix_columns(mix_columns(mix_columns(s)))
 }
 
 // A block deciphered under round keys.

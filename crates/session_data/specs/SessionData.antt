@@ -56,7 +56,7 @@ nonceIn text = take 5 (drop 5 text)
 abbrev pub validationIn : List ℕ → List ℕ
 validationIn text = take 4 (drop 10 text)
 
--- 13 is for the last two bytes
+-- of the block deciphered: 11, 13 for the last two bytes, 19 for a protocol other than 5
 unfoldable pub dataTextRules : List ℕ → List Rule
 dataTextRules text =
     (11 when not (eqb (num 4 0 text) 0xCAFEBABE))
@@ -64,7 +64,7 @@ dataTextRules text =
     ∷ (19 when not (eqb (num 1 4 text) 5))
     ∷ []
 
--- in this order
+-- in this order: 7 for a length other than 16, 10, and those
 unfoldable pub dataReadRules : Key → List ℕ → List Rule
 dataReadRules key block =
     (7 when not (eqb (length block) 16))
