@@ -6,13 +6,14 @@ use Prim.Native.Nat.{ℕ}
 use native.Mathlib.Omega.{arith}
 use lib.Dec.{eqb}
 use lib.ListN.{length, getD, take, drop}
+use borrow.Author.Needs.{needs}
 use borrow.Author.Tests.{eqb-true, not-false}
 use Rattle.wire.specs.Numbers.{num, le}
 use Rattle.wire.specs.Rules.{_when_, firstBroken}
 use Rattle.wire.specs.declared.Written.{Written}
 use Rattle.wire.specs.declared.Written.the-variants.{Wrote}
 use Rattle.wire.proofs.Given.{never, good-exactly}
-use Rattle.wire.proofs.Held.{held}
+use Rattle.wire.proofs.Held.{Held, held}
 use Rattle.wire.proofs.Numbers.{le-num}
 use Rattle.wire.proofs.Rules.{none-append}
 use Rattle.wire.proofs.Writers.{wrote-held}
@@ -62,17 +63,16 @@ cut : (t : List ℕ) → length t ≡ 16 → t ≡ take 4 t ++ (getD t 4 0 ∷ (
 unfolding from
 cut t e = places 16 t e ∙ sym (ap (λ (t : List ℕ). take 4 t ++ (getD t 4 0 ∷ (nonceIn t ++ (validationIn t ++ take 2 (drop 14 t))))) (places 16 t e))
 
--- one that breaks no rule is that of its own fields
-text-made : (t : List ℕ) → SixteenBytes t → firstBroken (dataTextRules t) ≡ 0 → dataText (nonceIn t) (validationIn t) ≡ t
+-- one that breaks no rule is that of its own fields, whatever the order of the rules
+text-made : (t : List ℕ) → SixteenBytes t → Held (dataTextRules t) → dataText (nonceIn t) (validationIn t) ≡ t
 unfolding dataTextRules dataText
-text-made t h e =
-    let r = held (dataTextRules t) (tt, (tt, (tt, tt))) e in
-    let n : num 4 0 t ≡ 0xCAFEBABE = eqb-true (num 4 0 t) 0xCAFEBABE (not-false _ (r .0)) in
-    let z : num 2 14 t ≡ 0 = eqb-true (num 2 14 t) 0 (not-false _ (r .1 .0)) in
-    let p : getD t 4 0 ≡ 5 = eqb-true (getD t 4 0) 5 (not-false _ (r .1 .1 .0)) in
-    let a : le 4 0xCAFEBABE ≡ take 4 t = sym (ap (le 4) n) ∙ le-num t (h .bytes) 4 0 (omega (arith, h .sixteen)) in
-    let b : 0 ∷ 0 ∷ [] ≡ take 2 (drop 14 t) = sym (ap (le 2) z) ∙ le-num t (h .bytes) 2 14 (omega (arith, h .sixteen)) in
-    (λ i. a i ++ (sym p i ∷ (nonceIn t ++ (validationIn t ++ b i)))) ∙ sym (cut t (h .sixteen))
+text-made t h r =
+    let n : not (eqb (num 4 0 t) 0xCAFEBABE) ≡ false = search needs in
+    let z : not (eqb (num 2 14 t) 0) ≡ false = search needs in
+    let p : not (eqb (getD t 4 0) 5) ≡ false = search needs in
+    let a : le 4 0xCAFEBABE ≡ take 4 t = sym (ap (le 4) (eqb-true (num 4 0 t) 0xCAFEBABE (not-false _ n))) ∙ le-num t (h .bytes) 4 0 (omega (arith, h .sixteen)) in
+    let b : 0 ∷ 0 ∷ [] ≡ take 2 (drop 14 t) = sym (ap (le 2) (eqb-true (num 2 14 t) 0 (not-false _ z))) ∙ le-num t (h .bytes) 2 14 (omega (arith, h .sixteen)) in
+    (λ i. a i ++ (sym (eqb-true (getD t 4 0) 5 (not-false _ p)) i ∷ (nonceIn t ++ (validationIn t ++ b i)))) ∙ sym (cut t (h .sixteen))
 
 -- ---- numbers
 -- the writer never gives 17
@@ -115,12 +115,12 @@ module _ (key : Key) (hk : SixteenBytes (key .bytes)) where
 
   writes : (old : Connection) (block : List ℕ) → SixteenBytes block → dataRead key old block .answer ≡ Accepted
       → dataImage (key .bytes) (nonceIn (textOf key block)) (validationIn (textOf key block)) ≡ block
-  unfolding dataImage dataRead dataReadRules accepts
+  unfolding dataImage dataRead dataReadRules dataTextRules accepts
   writes old block h e =
       let t : List ℕ = textOf key block in
       let n : firstBroken (dataReadRules key block) ≡ 0 = good-exactly accepts Refused (dataReadRules key block) Accepted (λ n. refl) refl .only (ap accepts e) in
       let r : firstBroken (dataTextRules t) ≡ 0 = none-append ((7 when not (eqb (length block) 16)) ∷ (10 when not (key .held)) ∷ []) (dataTextRules t) n .1 in
-      ap (cipher (key .bytes)) (text-made t (under-key (key .bytes) (hk .bytes) .back .keeps block h) r) ∙ both-ways (key .bytes) hk .enciphered block h
+      ap (cipher (key .bytes)) (text-made t (under-key (key .bytes) (hk .bytes) .back .keeps block h) (held (dataTextRules t) (tt, (tt, (tt, tt))) r)) ∙ both-ways (key .bytes) hk .enciphered block h
 
   pub reads-back : ReadsBack key
   reads-back = record { reads = reads; wrote = wrote; apart = apart; writes = writes }
