@@ -1,6 +1,7 @@
 """Writes a long capture and what the line lister must print for it: crates/long_listing/stdin and stdout. Usage: python3 bench/line/long.py
 
-The capture is made of frames, noise and faults one by one, and each adds its own lines, so that the output is known without decoding.
+The capture is made of frames, noise and faults one by one, and each adds its own lines, so that the output is known without decoding:
+a refusal's place is the number of bytes that its fault was made of, and for a cut the next start byte too.
 It takes three reads of 65536 bytes and several output buffers in each. The first seam lies between 5C and 3E of a frame, the second
 between the two bytes of a frame's size."""
 from pathlib import Path
@@ -53,30 +54,33 @@ def noise(count):
     capture.extend(b if b != 0x7E else 0x7D for b in some_bytes(count))
 
 
+def refused(no, broken):
+    """a broken frame's bytes up to the one at fault"""
+    capture.extend(broken)
+    lines.append(f"refused {no} {len(broken)}")
+
+
 def cut(front):
-    """1: a frame's front, and at once the next frame"""
+    """1: a frame's front, and at once the next frame, whose start byte is at fault"""
     capture.extend(front)
-    lines.append("refused 1")
+    lines.append(f"refused 1 {len(front) + 1}")
     frame(0, some_bytes(number(12)))
 
 
 def bad_escape():
     """2: 5C before a byte that is neither 3E, 1C nor 7E"""
-    capture.extend(b"\x7e" + escaped(b"\x20\x00" + some_bytes(number(9))) + b"\x5c" + bytes([(0x41, 0x5C, 0x3F, 0x00)[number(4)]]))
-    lines.append("refused 2")
+    refused(2, b"\x7e" + escaped(b"\x20\x00" + some_bytes(number(9))) + b"\x5c" + bytes([(0x41, 0x5C, 0x3F, 0x00)[number(4)]]))
 
 
 def bad_size():
     """3: 0 to 4, and 513 and above"""
     size = (number(5), 513, 513 + number(65023), 65535)[number(4)]
-    capture.extend(b"\x7e" + escaped(size.to_bytes(2, "little")))
-    lines.append("refused 3")
+    refused(3, b"\x7e" + escaped(size.to_bytes(2, "little")))
 
 
 def bad_crc():
     """4: a bit of the CRC differs"""
-    capture.extend(image(128, some_bytes(number(30)), 1 << number(16)))
-    lines.append("refused 4")
+    refused(4, image(128, some_bytes(number(30)), 1 << number(16)))
 
 
 def anything():

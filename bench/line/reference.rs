@@ -16,7 +16,7 @@ fn table() -> [u16; 256] {
 enum Event {
     Nothing,
     Frame { wrapper: u8, len: usize },
-    Refused(u8),
+    Refused { number: u8, place: usize },
 }
 
 struct Receiver {
@@ -25,18 +25,19 @@ struct Receiver {
     escaped: bool,
     got: usize,
     size: usize,
+    count: usize,
     crc: u16,
     store: [u8; 512],
 }
 
 impl Receiver {
     fn new() -> Self {
-        Receiver { table: table(), inside: false, escaped: false, got: 0, size: 0, crc: 0xFFFF, store: [0; 512] }
+        Receiver { table: table(), inside: false, escaped: false, got: 0, size: 0, count: 0, crc: 0xFFFF, store: [0; 512] }
     }
 
-    fn refuse(&mut self, n: u8) -> Event {
+    fn refuse(&mut self, number: u8) -> Event {
         self.inside = false;
-        Event::Refused(n)
+        Event::Refused { number, place: self.count }
     }
 
     fn take(&mut self, b: u8) -> Event {
@@ -65,22 +66,24 @@ impl Receiver {
         if sent == self.crc {
             Event::Frame { wrapper: self.store[2], len: self.size - 5 }
         } else {
-            Event::Refused(4)
+            Event::Refused { number: 4, place: self.count }
         }
     }
 
     fn receive(&mut self, b: u8) -> Event {
         if b == 0x7E {
-            let cut = self.inside;
+            let event = if self.inside { Event::Refused { number: 1, place: self.count + 1 } } else { Event::Nothing };
             self.inside = true;
             self.escaped = false;
             self.got = 0;
+            self.count = 1;
             self.crc = 0xFFFF;
-            return if cut { Event::Refused(1) } else { Event::Nothing };
+            return event;
         }
         if !self.inside {
             return Event::Nothing;
         }
+        self.count += 1;
         if self.escaped {
             self.escaped = false;
             return match b {
@@ -110,7 +113,7 @@ fn main() -> io::Result<()> {
             match receiver.receive(b) {
                 Event::Nothing => {}
                 Event::Frame { wrapper, len } => writeln!(out, "frame {wrapper} {len}")?,
-                Event::Refused(n) => writeln!(out, "refused {n}")?,
+                Event::Refused { number, place } => writeln!(out, "refused {number} {place}")?,
             }
         }
     }

@@ -21,6 +21,7 @@ fn caught() -> Receiver {
             low: 0,
             got: 7,
             size: 40,
+            count: 8,
         },
         store: [0xEE; 512],
     }
@@ -60,8 +61,8 @@ fn handle(event: Event, receiver: Receiver, session: Session) -> Session {
                 session,
             )
         }
-        Event::Refused(n) => {
-            receiver_refused(n);
+        Event::Refused { number, place } => {
+            receiver_refused(number, place);
             session
         }
     }
@@ -73,10 +74,11 @@ pub fn end_line(out: &mut [u8], at: usize) {
     io::write_all(1, wire::part_of(out, Part { start: 0, len: n }));
 }
 
-fn receiver_refused(n: u8) {
+fn receiver_refused(number: u8, place: usize) {
     let mut out = [0u8; 64];
-    let a = text::named(&mut out, 0, b"receiver refused ", n as u64);
-    end_line(&mut out, a);
+    let a = text::named(&mut out, 0, b"receiver refused ", number as u64);
+    let b = text::named(&mut out, a, b" ", place as u64);
+    end_line(&mut out, b);
 }
 
 // The work buffer holds other bytes at each opening.

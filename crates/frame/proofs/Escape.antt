@@ -2,7 +2,7 @@
 use mathlib.Core.Path.{_≡_, refl, sym, ap, _∙_}
 use mathlib.Core.List.{List, [], _∷_, _++_, append-assoc}
 use mathlib.Core.Bool.{true, false, not, _||_}
-use Prim.Native.Nat.{ℕ, _+_, _≤_, _<_}
+use Prim.Native.Nat.{ℕ, _+_, _*_, _≤_, _<_}
 use native.Mathlib.Numerals.{add-one}
 use native.Mathlib.Omega.{arith}
 use borrow.Author.Tests.{ltb-false}
@@ -11,10 +11,10 @@ use lib.Dec.{eqb, ltb}
 use lib.ListN.{length, drop, getD, set, length-append, drop-of-length-le}
 use lib.Seq.{drop-cons, sets}
 use Rattle.wire.specs.Numbers.{le}
-use Rattle.wire.proofs.Choice.{or-fails}
+use Rattle.wire.proofs.Choice.{or-fails, pick-all}
 use Rattle.wire.proofs.Lists.{sets-then}
 use Rattle.crc.specs.Crc.{crcOf}
-use Rattle.frame.specs.Image.{isMark, escapeByte, escape, covered, image}
+use Rattle.frame.specs.Image.{isMark, escapeByte, escape, covered, wireFrame, image}
 use Rattle.frame.specs.Writer.{badFrame, headerOf, sent}
 
 pub escape-mark : (b : ℕ) → isMark b ≡ true → escapeByte b ≡ 0x5C ∷ bitXor b 0x40 ∷ []
@@ -30,6 +30,28 @@ unfolding escape
 escape-append [] b = refl
 escape-append (x ∷ a) b =
     ap (λ (l : List ℕ). escapeByte x ++ l) (escape-append a b) ∙ sym (append-assoc (escapeByte x) (escape a) (escape b))
+
+-- ---- how many bytes a frame is on the line
+pub escape-byte-length : (b : ℕ) → (1 ≤ length (escapeByte b)) × (length (escapeByte b) ≤ 2)
+unfolding escapeByte
+escape-byte-length b = pick-all (λ (l : List ℕ). (1 ≤ length l) × (length l ≤ 2)) (isMark b) (λ t. (omega arith, omega arith)) (λ t. (omega arith, omega arith))
+
+-- as many bytes as were escaped at least, and twice as many at most
+pub escape-length : (bs : List ℕ) → (length bs ≤ length (escape bs)) × (length (escape bs) ≤ 2 * length bs)
+unfolding escape
+escape-length [] = (omega arith, omega arith)
+escape-length (b ∷ bs) =
+    let one = escape-byte-length b in
+    let more = escape-length bs in
+    let both = length-append (escapeByte b) (escape bs) in
+    (omega (arith, one .0, more .0, both), omega (arith, one .1, more .1, both))
+
+-- A frame of any size field s: at least s + 3 bytes and at most 2s + 5.
+pub frame-length : (size : ℕ) (bytes : List ℕ) → length bytes ≡ size → (size + 3 ≤ length (wireFrame size bytes)) × (length (wireFrame size bytes) ≤ 2 * size + 5)
+frame-length size bytes e =
+    let l = escape-length (le 2 size ++ bytes) in
+    let both = length-append (le 2 size) bytes in
+    (omega (arith, l .0, both), omega (arith, l .1, both))
 
 module _ (s : List ℕ) (i : ℕ) where
   rest-cons : i < length s → escape (drop i s) ≡ escapeByte (getD s i 0) ++ escape (drop (i + 1) s)

@@ -29,6 +29,10 @@ covered wrapper payload = 1 ∷ 0 ∷ wrapper ∷ payload
 abbrev pub body : ℕ → List ℕ → List ℕ
 body wrapper payload = covered wrapper payload ++ le 2 (crcOf (covered wrapper payload))
 
--- the frame on the line: start byte, size, body
+-- any frame on the line: start byte, size, and the bytes that the size counts
+abbrev pub wireFrame : ℕ → List ℕ → List ℕ
+wireFrame size bytes = 0x7E ∷ escape (le 2 size ++ bytes)
+
+-- ours
 abbrev pub image : ℕ → List ℕ → List ℕ
-image wrapper payload = 0x7E ∷ escape (le 2 (length payload + 5) ++ body wrapper payload)
+image wrapper payload = wireFrame (length payload + 5) (body wrapper payload)

@@ -13,11 +13,11 @@ use Rattle.wire.specs.Choice.{pick}
 use Rattle.wire.proofs.Choice.{pick-all, true-false, or-fails}
 use Rattle.line.specs.Receive.{busy, reading, holding, stepTo, stepOf}
 use Rattle.line.specs.Moves.{moveOf, takenMove, storedMove, keep, storeAfter, eventOf, ActsOn}
-use Rattle.line.specs.Feed.{Fed, fed, fedTo, silent, Feeds, Skips, Passes}
+use Rattle.line.specs.Feed.{Fed, fed, fedTo, silent, Feeds, Skips, Countable, Unescapes, Passes}
 use Rattle.line.specs.Line.{Emitted, emitted, run, after}
 use Rattle.line.proofs.Gives.{step-gives}
 use Rattle.line.proofs.Run.{run-one, run-append}
-use Rattle.line.proofs.Moves.{busy-inside, stepped, move-plain, move-mark}
+use Rattle.line.proofs.Moves.{busy-counts, stepped, move-plain, move-mark}
 use Rattle.line.specs.declared.Action.the-variants.{Put}
 use Rattle.line.specs.declared.Progress.{Progress}
 use Rattle.line.specs.declared.Move.{Move}
@@ -50,17 +50,23 @@ unfolding fed
 feed-end s i r h = ap (λ (l : List ℕ). fed i l r) (drop-of-length-le s h)
 
 -- ---- a byte of a frame behind its size that is not the last
-module _ (low got size : ℕ) (h2 : 2 ≤ got) (h5 : 5 ≤ size) (h512 : size ≤ 512) (hg : got ≤ size) where
-  -- the move that puts it into the store
-  abbrev puts : ℕ → Move
-  puts v = record { progress = reading false low (got + 1) size; action = Put (got - 2) v }
+module _ (low got size count : ℕ) (h2 : 2 ≤ got) (h5 : 5 ≤ size) (h512 : size ≤ 512) (hg : got ≤ size) (hc : Countable got count) where
+  -- the record after it, and the move that puts it into the store
+  abbrev next : ℕ → Progress
+  next w = reading false low (got + 1) size (count + w)
+
+  abbrev puts : ℕ → ℕ → Move
+  puts w v = record { progress = next w; action = Put (got - 2) v }
 
   counted : got < size + 2
   counted = omega arith
 
-  taken-puts : (e : Bool) (v : ℕ) → takenMove (reading e low got size) v ≡ puts v
+  below-limit : count + 1 < 1029
+  below-limit = omega arith
+
+  taken-puts : (w v : ℕ) → takenMove (reading false low got size (count + w)) v ≡ puts w v
   unfolding takenMove storedMove
-  taken-puts e v =
+  taken-puts w v =
       let x : got ≡ 0 → ⊥ = omega arith in
       let y : got ≡ 1 → ⊥ = omega arith in
       let z : got ≡ size + 1 → ⊥ = omega arith in
@@ -74,26 +80,27 @@ module _ (low got size : ℕ) (h2 : 2 ≤ got) (h5 : 5 ≤ size) (h512 : size �
       (stepped p (getD s i 0) st m (storeAfter (m .action) st) Nothing e (record { store = refl; event = sym q })) refl
 
   pub plain-next : (s st : List ℕ) (i : ℕ) → i < length s → (getD s i 0 ≡ 0x7E → ⊥) → (getD s i 0 ≡ 0x5C → ⊥)
-      → Skips s i (holding (reading false low got size) st) (i + 1) (holding (reading false low (got + 1) size) (set st (got - 2) (getD s i 0)))
+      → Skips s i (holding (reading false low got size count) st) (i + 1) (holding (next 1) (set st (got - 2) (getD s i 0)))
   plain-next s st i below p q =
       record {
         forward = omega arith;
         same =
-            moved s st i (reading false low got size) (puts (getD s i 0)) below
-            (sym (move-plain low got size h5 h512 counted (getD s i 0) p q ∙ taken-puts false (getD s i 0))) refl;
+            moved s st i (reading false low got size count) (puts 1 (getD s i 0)) below
+            (sym (move-plain low got size count h5 h512 counted below-limit (getD s i 0) p q ∙ taken-puts 1 (getD s i 0))) refl;
       }
 
   pub escaped-next : (s st : List ℕ) (i v : ℕ) → i + 1 < length s → getD s i 0 ≡ 0x5C
-      → moveOf (reading true low got size) (getD s (i + 1) 0) ≡ takenMove (reading false low got size) v
-      → Skips s i (holding (reading false low got size) st) (i + 2) (holding (reading false low (got + 1) size) (set st (got - 2) v))
+      → moveOf (reading true low got size (count + 1)) (getD s (i + 1) 0) ≡ takenMove (reading false low got size (count + 2)) v
+      → Skips s i (holding (reading false low got size count) st) (i + 2) (holding (next 2) (set st (got - 2) v))
   escaped-next s st i v below e m =
       let k : i + 1 + 1 ≡ i + 2 = omega arith in
       record {
         forward = omega arith;
         same =
-            moved s st i (reading false low got size) (keep (reading true low got size)) (omega arith) (sym (ap (moveOf (reading false low got size)) e ∙ move-mark low got size h5 h512 counted)) refl
-            ∙ moved s st (i + 1) (reading true low got size) (puts v) below (sym (m ∙ taken-puts false v)) refl
-            ∙ ap (λ (n : ℕ). fed n (drop n s) (holding (reading false low (got + 1) size) (set st (got - 2) v))) k;
+            moved s st i (reading false low got size count) (keep (reading true low got size (count + 1))) (omega arith)
+            (sym (ap (moveOf (reading false low got size count)) e ∙ move-mark low got size count h5 h512 counted below-limit)) refl
+            ∙ moved s st (i + 1) (reading true low got size (count + 1)) (puts 2 v) below (sym (m ∙ taken-puts 2 v)) refl
+            ∙ ap (λ (n : ℕ). fed n (drop n s) (holding (next 2) (set st (got - 2) v))) k;
       }
 
 -- a byte that is not left to the step
@@ -109,12 +116,23 @@ skips-none s i r = record { forward = omega arith; same = refl }
 pub skips-then : {s : List ℕ} {i j k : ℕ} {r r′ r″ : Receiver} → Skips s i r j r′ → Skips s j r′ k r″ → Skips s i r k r″
 skips-then p q = record { forward = omega arith; same = p .same ∙ q .same }
 
+-- a byte of a frame more, where the count is known from the place
+pub skips-byte : (s : List ℕ) (from i w v low got size count : ℕ) (r : Receiver) (st : List ℕ)
+    → Skips s from r i (holding (reading false low got size (count + (i - from))) st)
+    → Unescapes s i w v → 2 ≤ got → 5 ≤ size → size ≤ 512 → got ≤ size → Countable got (count + (i - from))
+    → Skips s from r (i + w) (holding (reading false low (got + 1) size (count + (i + w - from))) (set st (got - 2) v))
+skips-byte s from i w v low got size count r st p u h2 h5 h512 hg hc =
+    let e : count + (i - from) + w ≡ count + (i + w - from) = omega (arith, p .forward) in
+    subst (λ (n : ℕ). Skips s from r (i + w) (holding (reading false low (got + 1) size n) (set st (got - 2) v))) e
+    (skips-then p (u .puts low got size (count + (i - from)) st h2 h5 h512 hg hc))
+
 -- progress inside a frame that is not after 5C
 pub skips-from : {s : List ℕ} {from to : ℕ} {st : List ℕ} {r : Receiver} (h : Progress) → busy h ≡ true → h .escaped ≡ false
-    → Skips s from (holding (reading false (h .low) (h .got) (h .size)) st) to r → Skips s from (holding h st) to r
+    → Skips s from (holding (reading false (h .low) (h .got) (h .size) (h .count)) st) to r → Skips s from (holding h st) to r
 skips-from {s} {from} {to} {st} {r} h t e q =
-    subst (λ (x : Bool). Skips s from (holding (record { inside = x; escaped = h .escaped; low = h .low; got = h .got; size = h .size }) st) to r) (sym (busy-inside h t))
-    (subst (λ (x : Bool). Skips s from (holding (reading x (h .low) (h .got) (h .size)) st) to r) (sym e) q)
+    subst (λ (x : Bool). Skips s from (holding (record { inside = x; escaped = h .escaped; low = h .low; got = h .got; size = h .size; count = h .count }) st) to r)
+    (sym (busy-counts h t .0 .inside))
+    (subst (λ (x : Bool). Skips s from (holding (reading x (h .low) (h .got) (h .size) (h .count)) st) to r) (sym e) q)
 
 -- one turn of the loop that feeds: it continues with what is skipped behind the byte, or stops at the byte's event
 module _ (s : List ℕ) (i : ℕ) (h : Progress) (st : List ℕ) (m : Move) (l : List ℕ) (e : Event) (f : Fed) (below : i < length s)
@@ -151,7 +169,7 @@ used-from n (b ∷ bs) r = omega (arith, used-more n b bs r (used-from (suc n) b
 silent-emitted : (e : Event) (s : List ℕ) → silent e ≡ true → emitted e s ≡ []
 silent-emitted Nothing s h = refl
 silent-emitted (Frame a b c d) s h = true-false (sym h)
-silent-emitted (Refused n) s h = true-false (sym h)
+silent-emitted (Refused n place) s h = true-false (sym h)
 
 -- the bytes that a feed used: what they give, and the receiver after them
 record OneByOne (bs : List ℕ) (r : Receiver) (f : Fed) : Type 0 where

@@ -8,7 +8,7 @@ use lib.Dec.{leb, ltb, eqb}
 use borrow.Author.Tests.{leb-true, ltb-true, eqb-true, eqb-false, ne-eqb, le-leb, lt-ltb}
 use Rattle.wire.specs.Choice.{pick}
 use Rattle.wire.proofs.Choice.{pick-all, and-holds}
-use Rattle.line.specs.Receive.{within, busy, sized, stored, taken, unescaped, inFrame, stepOf, reading, holding, stepTo}
+use Rattle.line.specs.Receive.{within, unfinished, busy, counted, sized, stored, taken, unescaped, inFrame, stepOf, reading, holding, stepTo}
 use Rattle.line.specs.Moves.{sizedMove, storedMove, takenMove, unescapedMove, inFrameMove, moveOf, keep, WithinLimits, acted, storeAfter, eventOf, ActsOn}
 use Rattle.line.specs.declared.Action.{Action}
 use Rattle.line.specs.declared.Action.the-variants.{Keep, Refuse}
@@ -23,17 +23,25 @@ use Rattle.line.specs.declared.Step.{Step}
 pub within-limits : (size : ℕ) → within size ≡ true → (5 ≤ size) × (size ≤ 512)
 within-limits size t = let l = and-holds (leb 5 size) (leb size 512) t in (leb-true _ _ (l .0), leb-true _ _ (l .1))
 
-pub busy-counts : (p : Progress) → busy p ≡ true → (5 ≤ p .size) × (p .size ≤ 512) × (p .got < p .size + 2)
+pub record Counts (p : Progress) : Type 0 where
+  pub inside : p .inside ≡ true
+  pub least : 5 ≤ p .size
+  pub most : p .size ≤ 512
+  pub more : p .got < p .size + 2
+
+pub unfinished-counts : (p : Progress) → unfinished p ≡ true → Counts p
+unfolding unfinished
+unfinished-counts p t =
+    let q = and-holds (p .inside) (within (p .size) && ltb (p .got) (p .size + 2)) t in
+    let w = and-holds (within (p .size)) (ltb (p .got) (p .size + 2)) (q .1) in
+    let l = within-limits (p .size) (w .0) in
+    record { inside = q .0; least = l .0; most = l .1; more = ltb-true _ _ (w .1) }
+
+pub busy-counts : (p : Progress) → busy p ≡ true → Counts p × (p .count < 1029)
 unfolding busy
 busy-counts p t =
-    let q = and-holds (p .inside) (within (p .size) && ltb (p .got) (p .size + 2)) t .1 in
-    let w = and-holds (within (p .size)) (ltb (p .got) (p .size + 2)) q in
-    let l = within-limits (p .size) (w .0) in
-    (l .0, l .1, ltb-true _ _ (w .1))
-
-pub busy-inside : (p : Progress) → busy p ≡ true → p .inside ≡ true
-unfolding busy
-busy-inside p t = and-holds (p .inside) (within (p .size) && ltb (p .got) (p .size + 2)) t .0
+    let q = and-holds (unfinished p) (ltb (p .count) 1029) t in
+    (unfinished-counts p (q .0), ltb-true _ _ (q .1))
 
 -- ---- the action of a move is within the limits
 MoveWithin : Move → Type 0
@@ -43,28 +51,29 @@ taken-within : (p : Progress) (v : ℕ) → 5 ≤ p .size → p .size ≤ 512 �
 unfolding takenMove sizedMove storedMove MoveWithin
 taken-within p v h5 h512 hg =
     pick-all MoveWithin (eqb (p .got) 0) (λ e. tt)
-    (λ e0. pick-all MoveWithin (eqb (p .got) 1) (λ e. pick-all MoveWithin (within (p .low + 256 * v)) (λ w. tt) (λ w. (omega arith, omega arith)))
+    (λ e0. pick-all MoveWithin (eqb (p .got) 1) (λ e. pick-all MoveWithin (within (p .low + 256 * v)) (λ w. tt) (λ w. tt))
     (λ e1. pick-all MoveWithin (eqb (p .got) (p .size + 1))
     (λ e. let g : p .got ≡ p .size + 1 = eqb-true _ _ e in (omega arith, h5, h512))
     (λ e. let g : p .got ≡ p .size + 1 → ⊥ = eqb-false _ _ e in omega arith)))
 
-start-within : (p : Progress) (t : Bool) → MoveWithin (record { progress = p; action = pick t (Refuse 1) Keep })
+start-within : (p : Progress) (t : Bool) (place : ℕ) → MoveWithin (record { progress = p; action = pick t (Refuse 1 place) Keep })
 unfolding MoveWithin
-start-within p true = (omega arith, omega arith)
-start-within p false = tt
+start-within p true place = tt
+start-within p false place = tt
 
 move-within : (p : Progress) (b : ℕ) → MoveWithin (moveOf p b)
 unfolding moveOf inFrameMove unescapedMove MoveWithin
 move-within p b =
-    pick-all MoveWithin (eqb b 0x7E) (λ e. start-within (reading false 0 0 5) (busy p))
+    pick-all MoveWithin (eqb b 0x7E) (λ e. start-within (reading false 0 0 5 1) (busy p) (p .count + 1))
     (λ e. pick-all MoveWithin (busy p)
     (λ t.
-    let k = busy-counts p t in
+    let k = busy-counts p t .0 in
+    let value : (v : ℕ) → MoveWithin (takenMove (counted p) v) = λ v. taken-within (counted p) v (k .least) (k .most) (k .more) in
     pick-all MoveWithin (p .escaped)
     (λ s. pick-all MoveWithin (eqb b 0x3E)
-    (λ x. taken-within p 0x7E (k .0) (k .1) (k .2))
-    (λ x. pick-all MoveWithin (eqb b 0x1C) (λ y. taken-within p 0x5C (k .0) (k .1) (k .2)) (λ y. (omega arith, omega arith))))
-    (λ s. pick-all MoveWithin (eqb b 0x5C) (λ x. tt) (λ x. taken-within p b (k .0) (k .1) (k .2))))
+    (λ x. value 0x7E)
+    (λ x. pick-all MoveWithin (eqb b 0x1C) (λ y. value 0x5C) (λ y. tt)))
+    (λ s. pick-all MoveWithin (eqb b 0x5C) (λ x. tt) (λ x. value b)))
     (λ t. tt))
 
 pub move-limits : (p : Progress) (b : ℕ) (m : Move) → m ≡ moveOf p b → WithinLimits (m .action)
@@ -97,16 +106,16 @@ in-frame-acted p s b =
     (pick-acted (eqb b 0x3E) (taken-acted p s 0x7E) (pick-acted (eqb b 0x1C) (taken-acted p s 0x5C) (is-acted _)))
     (pick-acted (eqb b 0x5C) (is-acted _) (taken-acted p s b))
 
-start-acted : (s : List ℕ) (t : Bool)
-    → IsActed s (stepTo (reading false 0 0 5) s (pick t (Refused 1) Nothing)) (record { progress = reading false 0 0 5; action = pick t (Refuse 1) Keep })
-start-acted s true = record { same = refl }
-start-acted s false = record { same = refl }
+start-acted : (s : List ℕ) (t : Bool) (place : ℕ)
+    → IsActed s (stepTo (reading false 0 0 5 1) s (pick t (Refused 1 place) Nothing)) (record { progress = reading false 0 0 5 1; action = pick t (Refuse 1 place) Keep })
+start-acted s true place = record { same = refl }
+start-acted s false place = record { same = refl }
 
 step-acted : (r : Receiver) (b : ℕ) → IsActed (r .store) (stepOf r b) (moveOf (r .progress) b)
 unfolding stepOf moveOf
 step-acted r b =
-    pick-acted (eqb b 0x7E) (start-acted (r .store) (busy (r .progress)))
-    (pick-acted (busy (r .progress)) (in-frame-acted (r .progress) (r .store) b) (is-acted _))
+    pick-acted (eqb b 0x7E) (start-acted (r .store) (busy (r .progress)) (r .progress .count + 1))
+    (pick-acted (busy (r .progress)) (in-frame-acted (counted (r .progress)) (r .store) b) (is-acted _))
 
 pub step-moves : (r : Receiver) (b : ℕ) → stepOf r b ≡ acted (moveOf (r .progress) b) (r .store)
 step-moves r b = step-acted r b .same
@@ -123,24 +132,26 @@ stepped p b s m l e h o =
     ∙ ap (λ (x : Move). acted x s) h
     ∙ sym (step-moves (holding p s) b)
 
--- ---- moves inside a frame
-module _ (low got size : ℕ) (h5 : 5 ≤ size) (h512 : size ≤ 512) (hg : got < size + 2) where
-  reading-busy : (e : Bool) → busy (reading e low got size) ≡ true
-  unfolding busy
-  reading-busy e = simp (le-leb _ _ h5, le-leb _ _ h512, lt-ltb _ _ hg)
+-- ---- moves inside a frame, from a count that leaves two below the limit
+module _ (low got size count : ℕ) (h5 : 5 ≤ size) (h512 : size ≤ 512) (hg : got < size + 2) (hc : count + 1 < 1029) where
+  reading-busy : (e : Bool) (n : ℕ) → n < 1029 → busy (reading e low got size n) ≡ true
+  unfolding busy unfinished
+  reading-busy e n h = simp (le-leb _ _ h5, le-leb _ _ h512, lt-ltb _ _ hg, lt-ltb _ _ h)
 
-  pub move-plain : (v : ℕ) → (v ≡ 0x7E → ⊥) → (v ≡ 0x5C → ⊥) → moveOf (reading false low got size) v ≡ takenMove (reading false low got size) v
+  -- one that is no mark
+  pub move-plain : (v : ℕ) → (v ≡ 0x7E → ⊥) → (v ≡ 0x5C → ⊥) → moveOf (reading false low got size count) v ≡ takenMove (reading false low got size (count + 1)) v
   unfolding moveOf inFrameMove
-  move-plain v p q = simp (ne-eqb _ _ p, reading-busy false, ne-eqb _ _ q)
+  move-plain v p q = simp (ne-eqb _ _ p, reading-busy false count (omega arith), ne-eqb _ _ q)
 
-  pub move-mark : moveOf (reading false low got size) 0x5C ≡ keep (reading true low got size)
+  pub move-mark : moveOf (reading false low got size count) 0x5C ≡ keep (reading true low got size (count + 1))
   unfolding moveOf inFrameMove
-  move-mark = simp (reading-busy false)
+  move-mark = simp (reading-busy false count (omega arith))
 
-  pub move-3E : moveOf (reading true low got size) 0x3E ≡ takenMove (reading false low got size) 0x7E
-  unfolding moveOf inFrameMove unescapedMove takenMove
-  move-3E = simp (reading-busy true)
+  -- and what comes behind 5C
+  pub move-3E : moveOf (reading true low got size (count + 1)) 0x3E ≡ takenMove (reading false low got size (count + 2)) 0x7E
+  unfolding moveOf inFrameMove unescapedMove takenMove storedMove
+  move-3E = let e : count + 1 + 1 ≡ count + 2 = omega arith in simp (reading-busy true (count + 1) hc, e)
 
-  pub move-1C : moveOf (reading true low got size) 0x1C ≡ takenMove (reading false low got size) 0x5C
-  unfolding moveOf inFrameMove unescapedMove takenMove
-  move-1C = simp (reading-busy true)
+  pub move-1C : moveOf (reading true low got size (count + 1)) 0x1C ≡ takenMove (reading false low got size (count + 2)) 0x5C
+  unfolding moveOf inFrameMove unescapedMove takenMove storedMove
+  move-1C = let e : count + 1 + 1 ≡ count + 2 = omega arith in simp (reading-busy true (count + 1) hc, e)

@@ -1,7 +1,7 @@
--- What is handed out over bytes one by one: the promise of one byte, bytes in two parts, and refusals 1 to 4 only. Assumes nothing.
+-- What is handed out over bytes one by one: the promise of one byte, bytes in two parts, and the limits of refusals. Assumes nothing.
 use mathlib.Core.Path.{_≡_, refl, sym, ap, _∙_, subst}
 use mathlib.Core.List.{List, [], _∷_, _++_, append-assoc, append-nil}
-use mathlib.Core.Bool.{_||_}
+use mathlib.Core.Bool.{true, _||_}
 use Prim.Native.Nat.{ℕ, _+_, _-_, _*_, _≤_}
 use native.Mathlib.Omega.{arith}
 use lib.ListN.{take, set}
@@ -11,7 +11,8 @@ use Rattle.wire.specs.Numbers.{num}
 use Rattle.wire.proofs.Choice.{pick-all}
 use Rattle.crc.specs.Crc.{crcOf}
 use Rattle.line.specs.Receive.{within, busy, stepOf}
-use Rattle.line.specs.Line.{Emitted, refusal, frame, emitted, frameGives, valueGives, escapedGives, insideGives, gives, run, after, Received, OneToFour}
+use Rattle.line.specs.Line.{Emitted, refusal, frame, emitted, frameGives, valueGives, escapedGives, insideGives, gives, run, after, Received, EachRefusal, Limits}
+use Rattle.line.proofs.Moves.{busy-counts}
 use Rattle.line.proofs.Gives.{step-gives}
 use Rattle.line.specs.declared.Progress.{Progress}
 use Rattle.line.specs.declared.Receiver.{Receiver}
@@ -45,46 +46,67 @@ unfolding after
 after-append [] b r = refl
 after-append (x ∷ a) b r = after-append a b (stepOf r x .receiver)
 
--- ---- refusals 1 to 4 only
-one-to-four : (n : ℕ) → 1 ≤ n → n ≤ 4 → OneToFour (refusal n ∷ [])
-one-to-four n l u = (l, u, tt)
+-- ---- refusals
+-- one that is given at a byte: 1 to 4, only to a record inside a frame, and at the next count
+pub record Given (p : Progress) (n place : ℕ) : Type 0 where
+  pub least : 1 ≤ n
+  pub most : n ≤ 4
+  pub inside : busy p ≡ true
+  pub next : place ≡ p .count + 1
 
-frame-one-to-four : (size : ℕ) (s : List ℕ) → OneToFour (frameGives size s)
-unfolding frameGives
-frame-one-to-four size s = pick-all OneToFour (eqb (crcOf (take (size - 2) s)) (num 2 (size - 2) s)) (λ e. tt) (λ e. one-to-four 4 (omega arith) (omega arith))
+module _ (p : Progress) (s : List ℕ) (t : busy p ≡ true) where
+  abbrev All : List Emitted → Type 0
+  All = EachRefusal (Given p)
 
-value-one-to-four : (p : Progress) (s : List ℕ) (v : ℕ) → OneToFour (valueGives p s v)
-unfolding valueGives
-value-one-to-four p s v =
-    pick-all OneToFour (eqb (p .got) 1)
-    (λ e. pick-all OneToFour (within (p .low + 256 * v)) (λ w. tt) (λ w. one-to-four 3 (omega arith) (omega arith)))
-    (λ e. pick-all OneToFour (eqb (p .got) (p .size + 1)) (λ l. frame-one-to-four (p .size) (set s (p .got - 2) v)) (λ l. tt))
+  one : (n : ℕ) → 1 ≤ n → n ≤ 4 → All (refusal n (p .count + 1) ∷ [])
+  one n l u = (record { least = l; most = u; inside = t; next = refl }, tt)
 
-gives-one-to-four : (r : Receiver) (b : ℕ) → OneToFour (gives r b)
-unfolding gives insideGives escapedGives
-gives-one-to-four r b =
-    let p : Progress = r .progress in
-    let value : (v : ℕ) → OneToFour (valueGives p (r .store) v) = value-one-to-four p (r .store) in
-    pick-all OneToFour (busy p)
-    (λ t. pick-all OneToFour (eqb b 0x7E) (λ e. one-to-four 1 (omega arith) (omega arith))
-    (λ e. pick-all OneToFour (p .escaped)
-    (λ x. pick-all OneToFour (eqb b 0x3E || eqb b 0x1C) (λ y. value (bitXor b 0x40)) (λ y. one-to-four 2 (omega arith) (omega arith)))
-    (λ x. pick-all OneToFour (eqb b 0x5C) (λ y. tt) (λ y. value b))))
-    (λ t. tt)
+  frame-given : (size : ℕ) (l : List ℕ) → All (frameGives size (p .count + 1) l)
+  unfolding frameGives
+  frame-given size l = pick-all All (eqb (crcOf (take (size - 2) l)) (num 2 (size - 2) l)) (λ e. tt) (λ e. one 4 (omega arith) (omega arith))
+
+  value-given : (v : ℕ) → All (valueGives p (p .count + 1) s v)
+  unfolding valueGives
+  value-given v =
+      pick-all All (eqb (p .got) 1)
+      (λ e. pick-all All (within (p .low + 256 * v)) (λ w. tt) (λ w. one 3 (omega arith) (omega arith)))
+      (λ e. pick-all All (eqb (p .got) (p .size + 1)) (λ l. frame-given (p .size) (set s (p .got - 2) v)) (λ l. tt))
+
+  inside-given : (b : ℕ) → All (insideGives p s b)
+  unfolding insideGives escapedGives
+  inside-given b =
+      pick-all All (eqb b 0x7E) (λ e. one 1 (omega arith) (omega arith))
+      (λ e. pick-all All (p .escaped)
+      (λ x. pick-all All (eqb b 0x3E || eqb b 0x1C) (λ y. value-given (bitXor b 0x40)) (λ y. one 2 (omega arith) (omega arith)))
+      (λ x. pick-all All (eqb b 0x5C) (λ y. tt) (λ y. value-given b)))
+
+pub gives-given : (r : Receiver) (b : ℕ) → EachRefusal (Given (r .progress)) (gives r b)
+unfolding gives
+gives-given r b = pick-all (EachRefusal (Given (r .progress))) (busy (r .progress)) (λ t. inside-given (r .progress) (r .store) t b) (λ t. tt)
+
+-- what one of each refusal gives of it
+pub each : (P Q : ℕ → ℕ → Type 0) → ((n place : ℕ) → P n place → Q n place) → (es : List Emitted) → EachRefusal P es → EachRefusal Q es
+each P Q f [] h = tt
+each P Q f (refusal n place ∷ es) h = (f n place (h .0), each P Q f es (h .1))
+each P Q f (frame major minor wrapper len payload ∷ es) h = each P Q f es h
+
+both : (P : ℕ → ℕ → Type 0) (xs ys : List Emitted) → EachRefusal P xs → EachRefusal P ys → EachRefusal P (xs ++ ys)
+both P [] ys p q = q
+both P (refusal n place ∷ xs) ys p q = (p .0, both P xs ys (p .1) q)
+both P (frame major minor wrapper len payload ∷ xs) ys p q = both P xs ys p q
+
+-- ---- refusals 1 to 4 only, at places 1 to 1029
+gives-limits : (r : Receiver) (b : ℕ) → EachRefusal Limits (gives r b)
+gives-limits r b =
+    each (Given (r .progress)) Limits (λ n place h. (h .least, h .most, omega (arith, h .next), omega (arith, h .next, busy-counts (r .progress) (h .inside) .1))) (gives r b) (gives-given r b)
 
 -- a step's refusal
-pub step-one-to-four : (r : Receiver) (b n : ℕ) → stepOf r b .event ≡ Refused n → (1 ≤ n) × (n ≤ 4)
-step-one-to-four r b n e =
-    let o = subst OneToFour (sym (step-gives r b) ∙ ap (λ (x : Event). emitted x (stepOf r b .receiver .store)) e) (gives-one-to-four r b) in
-    (o .0, o .1)
-
-both : (xs ys : List Emitted) → OneToFour xs → OneToFour ys → OneToFour (xs ++ ys)
-both [] ys p q = q
-both (refusal n ∷ xs) ys p q = (p .0, p .1, both xs ys (p .2) q)
-both (frame major minor wrapper len payload ∷ xs) ys p q = both xs ys p q
+pub step-limits : (r : Receiver) (b n place : ℕ) → stepOf r b .event ≡ Refused n place → Limits n place
+step-limits r b n place e =
+    subst (EachRefusal Limits) (sym (step-gives r b) ∙ ap (λ (x : Event). emitted x (stepOf r b .receiver .store)) e) (gives-limits r b) .0
 
 -- every refusal that is handed out, whatever the bytes and the record
-pub run-one-to-four : (bs : List ℕ) (r : Receiver) → OneToFour (run bs r)
+pub run-limits : (bs : List ℕ) (r : Receiver) → EachRefusal Limits (run bs r)
 unfolding run
-run-one-to-four [] r = tt
-run-one-to-four (b ∷ bs) r = both (gives r b) (run bs (stepOf r b .receiver)) (gives-one-to-four r b) (run-one-to-four bs (stepOf r b .receiver))
+run-limits [] r = tt
+run-limits (b ∷ bs) r = both Limits (gives r b) (run bs (stepOf r b .receiver)) (gives-limits r b) (run-limits bs (stepOf r b .receiver))

@@ -1,5 +1,5 @@
 -- Many bytes at once, up to the next event.
-use Prim.Native.Nat.{ℕ, suc, _+_, _-_, _≤_}
+use Prim.Native.Nat.{ℕ, suc, _+_, _-_, _*_, _≤_}
 use mathlib.Core.List.{List, [], _∷_}
 use mathlib.Core.Bool.{Bool, true, false}
 use lib.ListN.{length, take, drop, set}
@@ -15,7 +15,7 @@ use Rattle.line.specs.declared.Event.the-variants.{Nothing, Frame, Refus
 abbrev pub silent : Event → Bool
 silent Nothing = true
 silent (Frame major minor wrapper len) = false
-silent (Refused n) = false
+silent (Refused n place) = false
 
 -- the receiver after some bytes, the event that they ended with, and the place behind them
 pub record Fed : Type 0 where
@@ -46,12 +46,17 @@ pub record Skips (s : List ℕ) (from : ℕ) (r : Receiver) (to : ℕ) (r′ : R
   pub forward : from ≤ to
   pub same : fed from (drop from s) r ≡ fed to (drop to s) r′
 
+-- what a frame's start byte and its unescaped bytes, two bytes each at most, can bring the count to
+abbrev pub Countable : ℕ → ℕ → Type 0
+Countable got count = count ≤ 1 + 2 * got
+
 -- v is the unescaped byte at a place of s, w bytes on the line: behind a frame's size, where it is not the last, it is put into the store
 pub record Unescapes (s : List ℕ) (i w v : ℕ) : Type 0 where
   pub fits : i + w ≤ length s
+  pub narrow : w ≤ 2
   pub puts :
-      (low got size : ℕ) (st : List ℕ) → 2 ≤ got → 5 ≤ size → size ≤ 512 → got ≤ size
-      → Skips s i (holding (reading false low got size) st) (i + w) (holding (reading false low (got + 1) size) (set st (got - 2) v))
+      (low got size count : ℕ) (st : List ℕ) → 2 ≤ got → 5 ≤ size → size ≤ 512 → got ≤ size → Countable got count
+      → Skips s i (holding (reading false low got size count) st) (i + w) (holding (reading false low (got + 1) size (count + w)) (set st (got - 2) v))
 
 -- between two places of s nothing happens to a receiver that is inside no frame
 abbrev pub Passes : List ℕ → ℕ → ℕ → Type 0

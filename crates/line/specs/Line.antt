@@ -17,38 +17,40 @@ use Rattle.line.specs.declared.Event.{Event}
 use Rattle.line.specs.declared.Event.the-variants.{Nothing, Frame, Refused}
 
 -- ---- what is handed out
--- a refusal's number; or a frame: major, minor, wrapper type, payload length, and its payload as it stands in the store at that moment
+-- a refusal's number and place; or a frame: major, minor, wrapper type, payload length, and its payload as it stands in the store at that
+-- moment
 pub data Emitted : Type 0 where
-  refusal : ℕ → Emitted
+  refusal : ℕ → ℕ → Emitted
   frame : ℕ → ℕ → ℕ → ℕ → List ℕ → Emitted
 
--- ---- what one byte gives, from the record and the byte alone. The numbers are those of document 01's table
+-- ---- what one byte gives, from the record and the byte alone. The numbers are those of document 01's table; a refusal's place is the count
+-- of the frame's bytes on the line up to this byte
 -- a frame of this size is complete in the store: 4 where the CRC over major through payload differs
-unfoldable pub frameGives : ℕ → List ℕ → List Emitted
-frameGives size s =
+unfoldable pub frameGives : ℕ → ℕ → List ℕ → List Emitted
+frameGives size place s =
     pick (eqb (crcOf (take (size - 2) s)) (num 2 (size - 2) s))
     (frame (getD s 0 0) (getD s 1 0) (getD s 2 0) (size - 5) (framePayload (size - 5) s) ∷ [])
-    (refusal 4 ∷ [])
+    (refusal 4 place ∷ [])
 
 -- an unescaped byte: 3 where it makes a size below 5 or above 512; the frame's last one completes it
-unfoldable pub valueGives : Progress → List ℕ → ℕ → List Emitted
-valueGives p s v =
+unfoldable pub valueGives : Progress → ℕ → List ℕ → ℕ → List Emitted
+valueGives p place s v =
     pick (eqb (p .got) 1)
-    (pick (within (p .low + 256 * v)) [] (refusal 3 ∷ []))
-    (pick (eqb (p .got) (p .size + 1)) (frameGives (p .size) (set s (p .got - 2) v)) [])
+    (pick (within (p .low + 256 * v)) [] (refusal 3 place ∷ []))
+    (pick (eqb (p .got) (p .size + 1)) (frameGives (p .size) place (set s (p .got - 2) v)) [])
 
 -- a byte after 5C that is no 7E: 2 where it is neither 3E nor 1C, which stand for themselves XOR 40
-unfoldable pub escapedGives : Progress → List ℕ → ℕ → List Emitted
-escapedGives p s b = pick (eqb b 0x3E || eqb b 0x1C) (valueGives p s (bitXor b 0x40)) (refusal 2 ∷ [])
+unfoldable pub escapedGives : Progress → ℕ → List ℕ → ℕ → List Emitted
+escapedGives p place s b = pick (eqb b 0x3E || eqb b 0x1C) (valueGives p place s (bitXor b 0x40)) (refusal 2 place ∷ [])
 
 -- a byte inside an unfinished frame: 1 where it is 7E
 unfoldable pub insideGives : Progress → List ℕ → ℕ → List Emitted
 insideGives p s b =
     pick (eqb b 0x7E)
-    (refusal 1 ∷ [])
+    (refusal 1 (p .count + 1) ∷ [])
     (pick (p .escaped)
-    (escapedGives p s b)
-    (pick (eqb b 0x5C) [] (valueGives p s b)))
+    (escapedGives p (p .count + 1) s b)
+    (pick (eqb b 0x5C) [] (valueGives p (p .count + 1) s b)))
 
 -- idle, no byte gives anything
 unfoldable pub gives : Receiver → ℕ → List Emitted
@@ -66,7 +68,7 @@ after (b ∷ bs) r = after bs (stepOf r b .receiver)
 -- ---- what the code's event hands out, with the store after it
 abbrev pub emitted : Event → List ℕ → List Emitted
 emitted Nothing s = []
-emitted (Refused n) s = refusal n ∷ []
+emitted (Refused n place) s = refusal n place ∷ []
 emitted (Frame major minor wrapper len) s = frame major minor wrapper len (framePayload len s) ∷ []
 
 -- what a function promises that takes one byte: the record after it, the event, and that it hands out what the byte gives
@@ -75,11 +77,15 @@ pub record Received (r : Receiver) (b : ℕ) (r′ : Receiver) (e : Event) : Typ
   pub event : e ≡ stepOf r b .event
   pub emits : emitted e (r′ .store) ≡ gives r b
 
--- every refusal is 1 to 4
-abbrev pub OneToFour : List Emitted → Type 0
-OneToFour [] = Unit {0}
-OneToFour (refusal n ∷ es) = (1 ≤ n) × (n ≤ 4) × OneToFour es
-OneToFour (frame major minor wrapper len payload ∷ es) = OneToFour es
+-- what holds of the number and place of every refusal
+abbrev pub EachRefusal : (ℕ → ℕ → Type 0) → List Emitted → Type 0
+EachRefusal P [] = Unit {0}
+EachRefusal P (refusal n place ∷ es) = P n place × EachRefusal P es
+EachRefusal P (frame major minor wrapper len payload ∷ es) = EachRefusal P es
+
+-- a number is 1 to 4, and a place 1 to 1029
+abbrev pub Limits : ℕ → ℕ → Type 0
+Limits n place = (1 ≤ n) × (n ≤ 4) × (1 ≤ place) × (place ≤ 1029)
 
 -- ---- what is put on the line
 -- a frame's wrapper type and payload, and the bytes behind it that belong to no frame

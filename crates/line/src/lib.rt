@@ -7,7 +7,7 @@ ghost use lib.ListN.{length, take};
 ghost use Rattle.line.specs.Receive as specs;
 ghost use Rattle.line.specs.Line.{Received};
 ghost use Rattle.line.specs.Feed as feeding;
-ghost use Rattle.line.specs.Feed.{Skips, Unescapes, Feeds};
+ghost use Rattle.line.specs.Feed.{Skips, Unescapes, Countable, Feeds};
 ghost use Rattle.line.specs.Moves as moves;
 use wire::Part;
 
@@ -22,6 +22,8 @@ pub struct Progress {
     pub got: usize,
     // The size, once both of its bytes have come.
     pub size: usize,
+    // How many bytes of the frame have come on the line, its start byte and escape bytes among them.
+    pub count: usize,
 }
 
 // One record for the line: what has come of a frame, and the bytes after its size.
@@ -30,7 +32,8 @@ pub struct Receiver {
     pub store: [u8; 512],
 }
 
-// What a byte gives: nothing, a frame whose bytes stand in the store, or a refusal's number.
+// What a byte gives: nothing, a frame whose bytes stand in the store, or a refusal's number and place: the count of the frame's bytes on
+// the line, up to the byte that caused it.
 pub enum Event {
     Nothing,
     Frame {
@@ -39,7 +42,10 @@ pub enum Event {
         wrapper: u8,
         len: usize,
     },
-    Refused(u8),
+    Refused {
+        number: u8,
+        place: usize,
+    },
 }
 
 // The record after a byte, and its event.
@@ -51,9 +57,20 @@ pub struct Step {
 // What is to be done with the store: nothing, a byte put in its place, a frame's last byte put in its place, or nothing and a refusal.
 enum Action {
     Keep,
-    Put { at: usize, byte: u8 },
-    Finish { at: usize, byte: u8, size: usize },
-    Refuse(u8),
+    Put {
+        at: usize,
+        byte: u8,
+    },
+    Finish {
+        at: usize,
+        byte: u8,
+        size: usize,
+        place: usize,
+    },
+    Refuse {
+        number: u8,
+        place: usize,
+    },
 }
 
 // The progress after a byte, and what is to be done with the store.
@@ -72,6 +89,7 @@ fn idle() -> Progress
         low: 0,
         got: 0,
         size: 5,
+        count: 0,
     }
 }
 
@@ -86,12 +104,12 @@ pub fn fresh() -> Receiver
 }
 
 // A refusal that leaves the receiver idle.
-fn refuse(n: u8) -> Move
-    ensures { λ m. ⌜ m ≡ moves.refuse n ⌝ }
+fn refuse(number: u8, place: usize) -> Move
+    ensures { λ m. ⌜ m ≡ moves.refuse number place ⌝ }
 {
     Move {
         progress: idle(),
-        action: Action::Refuse(n),
+        action: Action::Refuse { number, place },
     }
 }
 
@@ -106,8 +124,8 @@ fn within(size: usize) -> bool
 }
 
 // The size is complete: 3 where no frame has that size.
-fn sized(size: usize) -> Move
-    ensures { λ m. ⌜ m ≡ moves.sizedMove size ⌝ }
+fn sized(size: usize, count: usize) -> Move
+    ensures { λ m. ⌜ m ≡ moves.sizedMove size count ⌝ }
 {
     if within(size) {
         return Move {
@@ -117,48 +135,18 @@ fn sized(size: usize) -> Move
                 low: 0,
                 got: 2,
                 size,
+                count,
             },
             action: Action::Keep,
         };
     }
-    refuse(3)
-}
-
-// An unescaped byte after the size is for the next place of the store; the last one finishes the frame.
-fn stored(low: u8, got: usize, size: usize, v: u8) -> Move
-    requires { ⌜ (2 ≤ got) × (size ≤ 512) × (got < size + 2) ⌝ }
-    ensures { λ m. ⌜ m ≡ moves.storedMove low got size v ⌝ }
-{
-    if got == size + 1 {
-        Move {
-            progress: idle(),
-            action: Action::Finish {
-                at: got - 2,
-                byte: v,
-                size,
-            },
-        }
-    } else {
-        Move {
-            progress: Progress {
-                inside: true,
-                escaped: false,
-                low,
-                got: got + 1,
-                size,
-            },
-            action: Action::Put {
-                at: got - 2,
-                byte: v,
-            },
-        }
-    }
+    refuse(3, count)
 }
 
 impl Progress {
-    // Inside an unfinished frame.
-    fn busy(self) -> bool
-        ensures { λ b. ⌜ b ≡ specs.busy self ⌝ }
+    // Inside a frame of which not all bytes have come.
+    fn unfinished(self) -> bool
+        ensures { λ b. ⌜ b ≡ specs.unfinished self ⌝ }
     {
         if self.inside {
             let size = self.size;
@@ -167,6 +155,47 @@ impl Progress {
             }
         }
         false
+    }
+
+    // Inside an unfinished frame, with a count below its limit.
+    fn busy(self) -> bool
+        ensures { λ b. ⌜ b ≡ specs.busy self ⌝ }
+    {
+        if self.unfinished() {
+            return self.count < 1029;
+        }
+        false
+    }
+
+    // An unescaped byte after the size is for the next place of the store; the last one finishes the frame.
+    fn stored(self, v: u8) -> Move
+        requires { ⌜ (2 ≤ self .got) × (self .size ≤ 512) × (self .got < self .size + 2) ⌝ }
+        ensures { λ m. ⌜ m ≡ moves.storedMove self v ⌝ }
+    {
+        let at = self.got - 2;
+        if self.got == self.size + 1 {
+            Move {
+                progress: idle(),
+                action: Action::Finish {
+                    at,
+                    byte: v,
+                    size: self.size,
+                    place: self.count,
+                },
+            }
+        } else {
+            Move {
+                progress: Progress {
+                    inside: true,
+                    escaped: false,
+                    low: self.low,
+                    got: self.got + 1,
+                    size: self.size,
+                    count: self.count,
+                },
+                action: Action::Put { at, byte: v },
+            }
+        }
     }
 
     // An unescaped byte: the size's low byte, its high byte, or one after the size.
@@ -183,13 +212,14 @@ impl Progress {
                     low: v,
                     got: 1,
                     size: self.size,
+                    count: self.count,
                 },
                 action: Action::Keep,
             }
         } else if got == 1 {
-            sized(wire::wide(self.low) + 256 * wire::wide(v))
+            sized(wire::wide(self.low) + 256 * wire::wide(v), self.count)
         } else {
-            stored(self.low, got, self.size, v)
+            self.stored(v)
         }
     }
 
@@ -203,30 +233,39 @@ impl Progress {
         } else if b == 0x1C {
             self.taken(0x5C)
         } else {
-            refuse(2)
+            refuse(2, self.count)
         }
     }
 
-    // A byte inside a frame that is no start byte.
+    // A byte inside a frame that is no start byte counts, and is looked at.
     fn in_frame(self, b: u8) -> Move
-        requires { ⌜ (self .size ≤ 512) × (self .got < self .size + 2) ⌝ }
-        ensures { λ m. ⌜ m ≡ moves.inFrameMove self b ⌝ }
+        requires { ⌜ (self .size ≤ 512) × (self .got < self .size + 2) × (self .count < 1029) ⌝ }
+        ensures { λ m. ⌜ m ≡ moves.inFrameMove (specs.counted self) b ⌝ }
     {
-        if self.escaped {
-            self.unescaped(b)
+        let p = Progress {
+            inside: self.inside,
+            escaped: self.escaped,
+            low: self.low,
+            got: self.got,
+            size: self.size,
+            count: self.count + 1,
+        };
+        if p.escaped {
+            p.unescaped(b)
         } else if b == 0x5C {
             Move {
                 progress: Progress {
                     inside: true,
                     escaped: true,
-                    low: self.low,
-                    got: self.got,
-                    size: self.size,
+                    low: p.low,
+                    got: p.got,
+                    size: p.size,
+                    count: p.count,
                 },
                 action: Action::Keep,
             }
         } else {
-            self.taken(b)
+            p.taken(b)
         }
     }
 
@@ -241,11 +280,15 @@ impl Progress {
                 low: 0,
                 got: 0,
                 size: 5,
+                count: 1,
             };
             if self.busy() {
                 Move {
                     progress,
-                    action: Action::Refuse(1),
+                    action: Action::Refuse {
+                        number: 1,
+                        place: self.count + 1,
+                    },
                 }
             } else {
                 Move {
@@ -273,9 +316,9 @@ fn front(store: &[u8], n: usize) -> &[u8]
 }
 
 // A frame of this size is complete in the store: 4 where its CRC differs.
-fn finished(store: &[u8; 512], size: usize) -> Event
+fn finished(store: &[u8; 512], size: usize, place: usize) -> Event
     requires { ⌜ (5 ≤ size) × (size ≤ 512) ⌝ }
-    ensures { λ e. ⌜ e ≡ specs.finished size (now (store .entry)) ⌝ }
+    ensures { λ e. ⌜ e ≡ specs.finished size place (now (store .entry)) ⌝ }
 {
     let at = size - 2;
     let next = at + 1;
@@ -289,7 +332,7 @@ fn finished(store: &[u8; 512], size: usize) -> Event
             len: size - 5,
         }
     } else {
-        Event::Refused(4)
+        Event::Refused { number: 4, place }
     }
 }
 
@@ -304,11 +347,16 @@ fn acted(store: &mut [u8; 512], action: Action) -> Event
             store[at] = byte;
             Event::Nothing
         }
-        Action::Finish { at, byte, size } => {
+        Action::Finish {
+            at,
+            byte,
+            size,
+            place,
+        } => {
             store[at] = byte;
-            finished(store, size)
+            finished(store, size, place)
         }
-        Action::Refuse(n) => Event::Refused(n),
+        Action::Refuse { number, place } => Event::Refused { number, place },
     }
 }
 
@@ -342,7 +390,10 @@ fn silent(e: Event) -> bool
             wrapper: _,
             len: _,
         } => false,
-        Event::Refused(_) => false,
+        Event::Refused {
+            number: _,
+            place: _,
+        } => false,
     }
 }
 
@@ -401,9 +452,17 @@ fn leaves(width: usize, got: usize, size: usize) -> bool
 }
 
 // Bytes of a frame behind its size, up to its last, are put into the store.
-fn body(store: &mut [u8; 512], low: u8, had: usize, size: usize, s: &[u8], from: usize) -> Skipped
-    requires { ⌜ (2 ≤ had) × (5 ≤ size) × (size ≤ 512) × (had < size + 2) ⌝ }
-    ensures { λ p. ⌜ Skips (now (s .entry)) from (specs.holding (specs.reading false low had size) (now (store .entry))) (p .at) (specs.holding (p .progress) (now (store .exit))) ⌝ }
+fn body(
+    store: &mut [u8; 512],
+    low: u8,
+    had: usize,
+    size: usize,
+    count: usize,
+    s: &[u8],
+    from: usize,
+) -> Skipped
+    requires { ⌜ (2 ≤ had) × (5 ≤ size) × (size ≤ 512) × (had < size + 2) × Countable had count ⌝ }
+    ensures { λ p. ⌜ Skips (now (s .entry)) from (specs.holding (specs.reading false low had size count) (now (store .entry))) (p .at) (specs.holding (p .progress) (now (store .exit))) ⌝ }
 {
     let mut got = had;
     let mut i = from;
@@ -417,6 +476,7 @@ fn body(store: &mut [u8; 512], low: u8, had: usize, size: usize, s: &[u8], from:
                     low,
                     got,
                     size,
+                    count: count + (i - from),
                 },
                 at: i,
             };
@@ -433,6 +493,7 @@ fn body(store: &mut [u8; 512], low: u8, had: usize, size: usize, s: &[u8], from:
             low,
             got,
             size,
+            count: count + (i - from),
         },
         at: i,
     }
@@ -468,7 +529,19 @@ fn skip(progress: Progress, store: &mut [u8; 512], s: &[u8], from: usize) -> Ski
     if progress.got < 2 {
         return Skipped { progress, at: from };
     }
-    body(store, progress.low, progress.got, progress.size, s, from)
+    // A count that no line makes, and that may come to its limit, is left to the step.
+    if 1 + 2 * progress.got < progress.count {
+        return Skipped { progress, at: from };
+    }
+    body(
+        store,
+        progress.low,
+        progress.got,
+        progress.size,
+        progress.count,
+        s,
+        from,
+    )
 }
 
 // The progress after some bytes, the event that they ended with, and the place behind them.

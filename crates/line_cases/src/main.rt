@@ -3,7 +3,8 @@
 //
 // A line of standard input has fields with | between:
 //   LABEL|c|BYTES                  a capture, to a fresh record
-//   LABEL|r|PROGRESS|STORE|BYTES   to a record: whether it is inside a frame, escaped, low, got and size, with spaces between; and the bytes of its store
+//   LABEL|r|PROGRESS|STORE|BYTES   to a record: whether it is inside a frame, escaped, low, got, size and count, with spaces between;
+//                                  and the bytes of its store
 //   LABEL|w|TYPE|PAYLOAD|ROOM      the frame writer, with so many bytes EE for its room
 ghost use Prim.Native.Nat.{_≤_, _<_};
 ghost use lib.ListN.{length};
@@ -56,7 +57,7 @@ fn runs(out: &mut [u8], at: usize, s: &[u8]) -> usize {
     behind
 }
 
-// ` frame MAJOR MINOR TYPE LENGTH` and the payload, or ` refused N`.
+// ` frame MAJOR MINOR TYPE LENGTH` and the payload, or ` refused N PLACE`.
 fn event(out: &mut [u8], at: usize, e: Event, store: &[u8; 512]) -> usize {
     match e {
         Event::Nothing => at,
@@ -71,7 +72,11 @@ fn event(out: &mut [u8], at: usize, e: Event, store: &[u8; 512]) -> usize {
             let behind = text::decimals(out, name, &numbers);
             runs(out, behind, line::frame_payload(store, len))
         }
-        Event::Refused(n) => text::named(out, at, b" refused ", n as u64),
+        Event::Refused { number, place } => {
+            let numbers = [number as u64, place as u64];
+            let name = text::put(out, at, b" refused");
+            text::decimals(out, name, &numbers)
+        }
     }
 }
 
@@ -154,7 +159,7 @@ fn changed(receiver: Receiver, s: &[u8], whole: &[u8]) -> u64 {
     n
 }
 
-// `; record INSIDE ESCAPED LOW GOT SIZE; store` and the store's bytes.
+// `; record INSIDE ESCAPED LOW GOT SIZE COUNT; store` and the store's bytes.
 fn record(out: &mut [u8], at: usize, r: Receiver) -> usize {
     let p = r.progress;
     let numbers = [
@@ -163,6 +168,7 @@ fn record(out: &mut [u8], at: usize, r: Receiver) -> usize {
         p.low as u64,
         p.got as u64,
         p.size as u64,
+        p.count as u64,
     ];
     let name = text::put(out, at, b"; record");
     let behind = text::decimals(out, name, &numbers);
@@ -199,6 +205,7 @@ fn named_record(line: &[u8]) -> Receiver {
             low: (number(p, b' ', 2) % 256) as u8,
             got: number(p, b' ', 3),
             size: number(p, b' ', 4),
+            count: number(p, b' ', 5),
         },
         store,
     }

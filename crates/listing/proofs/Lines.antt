@@ -16,43 +16,48 @@ use Rattle.line.specs.Line.{Emitted, refusal, frame, emitted, run, after}
 use Rattle.line.specs.Feed.{Feeds}
 use Rattle.line.proofs.Run.{run-append, after-append}
 use Rattle.line.proofs.Feeding.{feeds-after, feeds-forward}
-use Rattle.listing.specs.Listing.{frameLine, refusedLine, eventText, linesOf, between, Lists}
+use Rattle.listing.specs.Listing.{entry, frameLine, refusedLine, eventText, linesOf, between, Lists}
 use Rattle.line.specs.declared.Receiver.{Receiver}
 use Rattle.line.specs.Feed.{Fed}
 use Rattle.line.specs.declared.Event.{Event}
 use Rattle.line.specs.declared.Event.the-variants.{Nothing, Frame, Refused}
 
 -- ---- an event's line, part by part
-pub frame-put : (w l : ℕ) {room m n after : List ℕ} {at p q r : ℕ} → Puts (ascii "frame " ++ decimal w) at room p m → Puts (ascii " " ++ decimal l) p m q n
-    → Puts (ascii "\n") q n r after → Puts (frameLine w l) at room r after
-frame-put w l x y z =
-    puts-same (puts-then (puts-then x y) z) (ap (λ (t : List ℕ). t ++ ascii "\n") (sym (append-assoc (ascii "frame " ++ decimal w) (ascii " ") (decimal l))))
+pub entry-put : (word : List ℕ) (a b : ℕ) {room m n after : List ℕ} {at p q r : ℕ} → Puts (word ++ decimal a) at room p m → Puts (ascii " " ++ decimal b) p m q n
+    → Puts (ascii "\n") q n r after → Puts (entry word a b) at room r after
+entry-put word a b x y z =
+    puts-same (puts-then (puts-then x y) z) (ap (λ (t : List ℕ). t ++ ascii "\n") (sym (append-assoc (word ++ decimal a) (ascii " ") (decimal b))))
 
-event-length : (e : Event) → length (eventText e) ≤ 48
-event-length Nothing = omega arith
-event-length (Refused n) = omega (arith, length-append (decimal n) (ascii "\n"), decimal-length 20 n)
-event-length (Frame major minor w l) =
+entry-length : (word : List ℕ) (a b : ℕ) → length word ≤ 8 → length (entry word a b) ≤ 50
+entry-length word a b h =
     omega (
       arith,
-      length-append (decimal w ++ ascii " " ++ decimal l) (ascii "\n"),
-      length-append (decimal w ++ ascii " ") (decimal l),
-      length-append (decimal w) (ascii " "),
-      decimal-length 20 w,
-      decimal-length 20 l,
+      h,
+      length-append (word ++ decimal a ++ ascii " " ++ decimal b) (ascii "\n"),
+      length-append (word ++ decimal a ++ ascii " ") (decimal b),
+      length-append (word ++ decimal a) (ascii " "),
+      length-append word (decimal a),
+      decimal-length 20 a,
+      decimal-length 20 b,
     )
+
+event-length : (e : Event) → length (eventText e) ≤ 50
+event-length Nothing = omega arith
+event-length (Refused n place) = entry-length (ascii "refused ") n place (omega arith)
+event-length (Frame major minor w l) = entry-length (ascii "frame ") w l (omega arith)
 
 -- ---- the lines of what is handed out
 lines-event : (e : Event) (s : List ℕ) → linesOf (emitted e s) ≡ eventText e
 unfolding linesOf
 lines-event Nothing s = refl
-lines-event (Refused n) s = append-nil (refusedLine n)
+lines-event (Refused n place) s = append-nil (refusedLine n place)
 lines-event (Frame major minor w l) s = append-nil (frameLine w l)
 
 lines-append : (a b : List Emitted) → linesOf (a ++ b) ≡ linesOf a ++ linesOf b
 unfolding linesOf
 lines-append [] b = refl
-lines-append (refusal n ∷ a) b =
-    ap (λ (t : List ℕ). refusedLine n ++ t) (lines-append a b) ∙ sym (append-assoc (refusedLine n) (linesOf a) (linesOf b))
+lines-append (refusal n place ∷ a) b =
+    ap (λ (t : List ℕ). refusedLine n place ++ t) (lines-append a b) ∙ sym (append-assoc (refusedLine n place) (linesOf a) (linesOf b))
 lines-append (frame major minor w l payload ∷ a) b =
     ap (λ (t : List ℕ). frameLine w l ++ t) (lines-append a b) ∙ sym (append-assoc (frameLine w l) (linesOf a) (linesOf b))
 
@@ -88,7 +93,7 @@ module _ {s : List ℕ} {from : ℕ} {r : Receiver} {to : ℕ} {r′ : Receiver}
   lists-fits = omega (arith, x .puts .place, length-take (length room - 0) (linesOf (run (between from to s) r)))
 
   -- the bytes up to the next event, and its line, for which there is room
-  pub lists-more : {f : Fed} {q : ℕ} {next : List ℕ} → Feeds s to r′ f → Puts (eventText (f .event)) at left q next → at + 48 ≤ length room
+  pub lists-more : {f : Fed} {q : ℕ} {next : List ℕ} → Feeds s to r′ f → Puts (eventText (f .event)) at left q next → at + 50 ≤ length room
       → Lists s from r (f .used) (f .receiver) room q next
   lists-more {f} {q} {next} y z h =
       let forth : to ≤ f .used = feeds-forward s to r′ f (y .answer) in
@@ -123,7 +128,7 @@ module _ {s : List ℕ} {from : ℕ} {r : Receiver} {to : ℕ} {r′ : Receiver}
       }
 
   -- a listing with room for a line goes forward
-  pub lists-forward : (to < length s → length room < at + 48) → from < length s → 48 ≤ length room → from < to
+  pub lists-forward : (to < length s → length room < at + 50) → from < length s → 50 ≤ length room → from < to
   unfolding run linesOf
   lists-forward stops h k =
       ⊎-elim

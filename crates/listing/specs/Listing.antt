@@ -11,25 +11,29 @@ use Rattle.line.specs.declared.Receiver.{Receiver}
 use Rattle.line.specs.declared.Event.{Event}
 use Rattle.line.specs.declared.Event.the-variants.{Nothing, Frame, Refused}
 
+-- a word and two numbers
+abbrev pub entry : List ℕ → ℕ → ℕ → List ℕ
+entry word a b = word ++ decimal a ++ ascii " " ++ decimal b ++ ascii "\n"
+
 -- frame TYPE LENGTH
 abbrev pub frameLine : ℕ → ℕ → List ℕ
-frameLine wrapper len = ascii "frame " ++ decimal wrapper ++ ascii " " ++ decimal len ++ ascii "\n"
+frameLine wrapper len = entry (ascii "frame ") wrapper len
 
--- refused N
-abbrev pub refusedLine : ℕ → List ℕ
-refusedLine n = ascii "refused " ++ decimal n ++ ascii "\n"
+-- refused N PLACE
+abbrev pub refusedLine : ℕ → ℕ → List ℕ
+refusedLine n place = entry (ascii "refused ") n place
 
 -- an event's line, nothing where there is none
 abbrev pub eventText : Event → List ℕ
 eventText Nothing = []
 eventText (Frame major minor wrapper len) = frameLine wrapper len
-eventText (Refused n) = refusedLine n
+eventText (Refused n place) = refusedLine n place
 
 -- the lines of all that is handed out
 unfoldable pub linesOf : List Emitted → List ℕ
 linesOf [] = []
 linesOf (frame major minor wrapper len payload ∷ es) = frameLine wrapper len ++ linesOf es
-linesOf (refusal n ∷ es) = refusedLine n ++ linesOf es
+linesOf (refusal n place ∷ es) = refusedLine n place ++ linesOf es
 
 -- the bytes of a capture between two places
 abbrev pub between : ℕ → ℕ → List ℕ → List ℕ
@@ -43,7 +47,7 @@ pub record Lists (s : List ℕ) (from : ℕ) (r : Receiver) (to : ℕ) (r′ : R
   pub puts : Puts (linesOf (run (between from to s) r)) 0 room at left
   pub whole : at ≡ length (linesOf (run (between from to s) r))
 
--- ---- frame 128 507, frame 0 3, refused 3
+-- ---- frame 128 507, frame 0 3, refused 3 3
 example-long : eventText (Frame 1 0 128 507) ≡ ascii "frame 128 507\n"
 unfolding decimalIn
 example-long = refl
@@ -52,6 +56,6 @@ example-short : eventText (Frame 1 0 0 3) ≡ ascii "frame 0 3\n"
 unfolding decimalIn
 example-short = refl
 
-example-refused : eventText (Refused 3) ≡ ascii "refused 3\n"
+example-refused : eventText (Refused 3 3) ≡ ascii "refused 3 3\n"
 unfolding decimalIn
 example-refused = refl

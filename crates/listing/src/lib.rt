@@ -14,7 +14,7 @@ use line::Event;
 use line::Progress;
 use line::Receiver;
 
-// `frame TYPE LENGTH` or `refused N`, nothing where there is no event: from a place on, and the place behind it.
+// `frame TYPE LENGTH` or `refused N PLACE`, nothing where there is no event: from a place on, and the place behind it.
 pub fn event_line(out: &mut [u8], at: usize, e: Event) -> usize
     ensures { λ r. ⌜ Puts (eventText e) at (now (out .entry)) r (now (out .exit)) ⌝ }
 {
@@ -30,9 +30,10 @@ pub fn event_line(out: &mut [u8], at: usize, e: Event) -> usize
             let b = text::named(out, a, b" ", len as u64);
             text::put(out, b, b"\n")
         }
-        Event::Refused(n) => {
-            let a = text::named(out, at, b"refused ", n as u64);
-            text::put(out, a, b"\n")
+        Event::Refused { number, place } => {
+            let a = text::named(out, at, b"refused ", number as u64);
+            let b = text::named(out, a, b" ", place as u64);
+            text::put(out, b, b"\n")
         }
     }
 }
@@ -44,7 +45,7 @@ pub struct Listed {
     pub at: usize,
 }
 
-// The lines of the events that the bytes of `s` from `from` on give, at the front of `out`: up to the end of `s`, or until fewer than 48
+// The lines of the events that the bytes of `s` from `from` on give, at the front of `out`: up to the end of `s`, or until fewer than 50
 // bytes of `out` are left, which the longest line needs.
 pub fn list_some(
     start: Progress,
@@ -54,13 +55,13 @@ pub fn list_some(
     out: &mut [u8],
 ) -> Listed
     ensures { λ l. ⌜ Lists (now (s .entry)) from (holding start (now (store .entry))) (l .used) (holding (l .progress) (now (store .exit))) (now (out .entry)) (l .at) (now (out .exit))
-        × (l .used < length (now (s .entry)) → length (now (out .entry)) < l .at + 48) ⌝ }
+        × (l .used < length (now (s .entry)) → length (now (out .entry)) < l .at + 50) ⌝ }
 {
     let mut progress = start;
     let mut used = from;
     let mut at: usize = 0;
     while used < s.len() {
-        if out.len() - at < 48 {
+        if out.len() - at < 50 {
             return Listed { progress, used, at };
         }
         let a = line::advance(progress, store, s, used);

@@ -2,14 +2,14 @@
 use mathlib.Core.Path.{_≡_, refl, sym, ap, _∙_, subst}
 use mathlib.Core.Bool.{Bool, true, false}
 use mathlib.Core.List.{List, [], _∷_, _++_, append-nil}
-use Prim.Native.Nat.{ℕ, suc}
+use Prim.Native.Nat.{ℕ, suc, _+_}
 use native.Mathlib.Omega.{arith}
 use lib.ListN.{length}
 use Rattle.wire.specs.Choice.{pick}
 use Rattle.line.specs.Receive.{busy}
 use Rattle.line.specs.Line as line
 use Rattle.line.specs.Line.{Emitted, refusal, insideGives, gives, run, after, NoStart, Sendable}
-use Rattle.line.proofs.Delivery.{delivered, after-kept, same-line}
+use Rattle.line.proofs.Delivery.{atStart, delivered, after-kept, same-line}
 use Rattle.line.specs.declared.Receiver.{Receiver}
 use Rattle.session.specs.declared.Session.{Session}
 use Rattle.bridge.specs.declared.Context.{Context}
@@ -37,29 +37,29 @@ all-give g at n (t ∷ ts) ok fit = (
 )
 
 -- ---- the start byte
-behind : (b : Bool) (x y : List Emitted) → pick b (refusal 1 ∷ []) [] ++ x ≡ pick b (refusal 1 ∷ []) [] ++ y → x ≡ y
-behind true x y e = cc
-behind false x y e = e
+behind : (b : Bool) (e : Emitted) (x y : List Emitted) → pick b (e ∷ []) [] ++ x ≡ pick b (e ∷ []) [] ++ y → x ≡ y
+behind true e x y h = cc
+behind false e x y h = h
 
-start : (r : Receiver) → run (0x7E ∷ []) r ≡ pick (busy (r .progress)) (refusal 1 ∷ []) []
+start : (r : Receiver) → run (0x7E ∷ []) r ≡ atStart r
 unfolding run gives insideGives
 start r = append-nil _
 
-past : (r : Receiver) (l : List ℕ) (fs : List Emitted) → run (0x7E ∷ l) r ≡ pick (busy (r .progress)) (refusal 1 ∷ []) [] ++ fs
+past : (r : Receiver) (l : List ℕ) (fs : List Emitted) → run (0x7E ∷ l) r ≡ atStart r ++ fs
     → run l (after (0x7E ∷ []) r) ≡ fs
 unfolding run gives insideGives after
-past r l fs e = behind (busy (r .progress)) (run l (after (0x7E ∷ []) r)) fs e
+past r l fs e = behind (busy (r .progress)) _ (run l (after (0x7E ∷ []) r)) fs e
 
 -- the refusal at the start byte is no frame
-skip : (g : Context) (at : ℕ → Occasion) (n : ℕ) (s : Session) (b : Bool) (es : List Emitted)
-    → openings g at n s (pick b (refusal 1 ∷ []) [] ++ es) ≡ openings g at n s es
+skip : (g : Context) (at : ℕ → Occasion) (n : ℕ) (s : Session) (b : Bool) (k : ℕ) (es : List Emitted)
+    → openings g at n s (pick b (refusal 1 k ∷ []) [] ++ es) ≡ openings g at n s es
 unfolding openings
-skip g at n s true es = refl
-skip g at n s false es = refl
+skip g at n s true k es = refl
+skip g at n s false k es = refl
 
 module _ (g : Context) (t : SentItem) (ts : List SentItem) (r : Receiver) (store : length (r .store) ≡ 512) (made : Made g (t ∷ ts)) where
   -- what is handed out, for any receiver
-  pub handed : run (lineOf g (t ∷ ts)) r ≡ pick (busy (r .progress)) (refusal 1 ∷ []) [] ++ line.framesOf (onLine g (t ∷ ts))
+  pub handed : run (lineOf g (t ∷ ts)) r ≡ atStart r ++ line.framesOf (onLine g (t ∷ ts))
   handed = delivered r _ (onLine g ts) store (sendable g (t ∷ ts) made)
 
   reads : (at : ℕ → Occasion) → Ready g at 0 (items (t ∷ ts)) → Read g (t ∷ ts) r at
@@ -72,7 +72,7 @@ module _ (g : Context) (t : SentItem) (ts : List SentItem) (r : Receiver) (store
         hands = past r _ (line.framesOf (onLine g (t ∷ ts))) handed;
         gives =
             subst (λ (es : List Opening). AllGive (items (t ∷ ts)) es)
-            (sym (ap (openings g at 0 (g .session)) handed ∙ skip g at 0 (g .session) (busy (r .progress)) (line.framesOf (onLine g (t ∷ ts)))))
+            (sym (ap (openings g at 0 (g .session)) handed ∙ skip g at 0 (g .session) (busy (r .progress)) (r .progress .count + 1) (line.framesOf (onLine g (t ∷ ts)))))
             (all-give g at 0 (t ∷ ts) made fit);
       }
 

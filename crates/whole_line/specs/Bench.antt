@@ -55,12 +55,12 @@ abbrev pub All : List Row → Type 0
 All [] = Unit {0}
 All (r ∷ rs) = Right r × All rs
 
--- just after a start byte; just after a size
+-- just after a start byte; just after a size, none of its bytes escaped
 abbrev pub afterStart : Progress
-afterStart = reading false 0 0 5
+afterStart = reading false 0 0 5 1
 
 abbrev pub afterSize : ℕ → Progress
-afterSize n = reading false 0 2 n
+afterSize n = reading false 0 2 n 3
 
 abbrev pub table : List Row
 table =
@@ -68,14 +68,14 @@ table =
     escapes (0x7E ∷ 0x5C ∷ 0x40 ∷ []) (0x5C ∷ 0x3E ∷ 0x5C ∷ 0x1C ∷ 0x40 ∷ [])
     -- plain hello, flags 0
     ∷ framed (0 ∷ 0 ∷ 0 ∷ []) (0x7E ∷ 0x08 ∷ 0x00 ∷ 0x01 ∷ 0x00 ∷ 0x00 ∷ 0x00 ∷ 0x00 ∷ 0x00 ∷ 0xB0 ∷ 0x4B ∷ [])
-    -- size 4 gets 3; size 5 does not; size 512 passes; 513 gets 3
-    ∷ received (0x7E ∷ 0x04 ∷ 0x00 ∷ []) (refusal 3 ∷ []) idle
+    -- size 4 gets 3; size 5 does not; size 512 passes; 513 gets 3: each refusal with its place
+    ∷ received (0x7E ∷ 0x04 ∷ 0x00 ∷ []) (refusal 3 3 ∷ []) idle
     ∷ received (0x7E ∷ 0x05 ∷ 0x00 ∷ []) [] (afterSize 5)
     ∷ received (0x7E ∷ 0x00 ∷ 0x02 ∷ []) [] (afterSize 512)
-    ∷ received (0x7E ∷ 0x01 ∷ 0x02 ∷ []) (refusal 3 ∷ []) idle
+    ∷ received (0x7E ∷ 0x01 ∷ 0x02 ∷ []) (refusal 3 3 ∷ []) idle
     -- 5C 5C inside a frame gets 2; 5C 7E there gets 1 and a new frame
-    ∷ received (0x7E ∷ 0x5C ∷ 0x5C ∷ []) (refusal 2 ∷ []) idle
-    ∷ received (0x7E ∷ 0x5C ∷ 0x7E ∷ []) (refusal 1 ∷ []) afterStart
+    ∷ received (0x7E ∷ 0x5C ∷ 0x5C ∷ []) (refusal 2 3 ∷ []) idle
+    ∷ received (0x7E ∷ 0x5C ∷ 0x7E ∷ []) (refusal 1 3 ∷ []) afterStart
     -- a message of 10 bytes seals to 1 block; of 11 bytes to 2
     ∷ seals 10 1
     ∷ seals 11 2

@@ -1,5 +1,5 @@
 -- DEMAND 3: NO LINE CAN BE READ TWO WAYS. The statement; proofs/OneWay.antt proves it for every context.
-use Prim.Native.Nat.{ℕ}
+use Prim.Native.Nat.{ℕ, _+_}
 use mathlib.Core.Path.{_≡_}
 use mathlib.Core.List.{List, [], _∷_, _++_}
 use lib.ListN.{length, drop}
@@ -19,8 +19,8 @@ pub record ReadBy
   pub writes : AllWritten g (items ts)
   -- the line's first byte is the first frame's start byte
   pub begins : whole ≡ 0x7E ∷ drop 1 whole
-  -- at that byte: 1 where a frame was unfinished, else nothing
-  pub starts : run (0x7E ∷ []) r ≡ pick (busy (r .progress)) (line.refusal 1 ∷ []) []
+  -- at that byte: 1 where a frame was unfinished, that byte counted in its place, else nothing
+  pub starts : run (0x7E ∷ []) r ≡ pick (busy (r .progress)) (line.refusal 1 (r .progress .count + 1) ∷ []) []
   -- behind that byte: exactly those frames, in order, and nothing else
   pub hands : run (drop 1 whole) (after (0x7E ∷ []) r) ≡ line.framesOf (onLine g ts)
   -- what is handed out from that byte on, opened in order, gives the messages, each its own

@@ -139,7 +139,7 @@ pub record Opening : Type 0 where
 -- the frames are opened in order, from their bytes as handed out, each with the session that came back from the last
 unfoldable pub openings : Context → (ℕ → Occasion) → ℕ → Session → List line.Emitted → List Opening
 openings g at n s [] = []
-openings g at n s (line.refusal k ∷ es) = openings g at n s es
+openings g at n s (line.refusal k place ∷ es) = openings g at n s es
 openings g at n s (line.frame major minor wrapper len p ∷ es) =
     let h : Context = during g s (at n .time) in
     let work : List ℕ = at n .work in

@@ -46,12 +46,12 @@ oneImage payload wrapper ignored = image 0 payload
 -- ---- wrong receivers: the first frame handed out ends the reading
 abbrev pub hasFrame : List Emitted → Bool
 hasFrame [] = false
-hasFrame (refusal n ∷ es) = hasFrame es
+hasFrame (refusal n place ∷ es) = hasFrame es
 hasFrame (frame major minor wrapper len payload ∷ es) = true
 
 -- a record that has handed out a frame of a size, and is idle from then on
 abbrev pub ended : ℕ → Progress
-ended size = record { inside = false; escaped = true; low = 0; got = 0; size = size }
+ended size = record { inside = false; escaped = true; low = 0; got = 0; size = size; count = 0 }
 
 abbrev pub isEnded : Receiver → Bool
 isEnded r = not (r .progress .inside) && r .progress .escaped
@@ -65,4 +65,4 @@ firstOnly r b = pick (isEnded r) [] (gives r b)
 
 -- the first frame again at each start byte
 abbrev pub firstAgain : Receiver → ℕ → List Emitted
-firstAgain r b = pick (isEnded r) (pick (eqb b 0x7E) (frameGives (r .progress .size) (r .store)) []) (gives r b)
+firstAgain r b = pick (isEnded r) (pick (eqb b 0x7E) (frameGives (r .progress .size) 0 (r .store)) []) (gives r b)

@@ -5,20 +5,33 @@ use mathlib.Core.Path.{_≡_}
 use native.Mathlib.Omega.{arith}
 use lib.ListN.{length}
 use Rattle.line.specs.Receive.{holding, reading}
-use Rattle.line.specs.Feed.{Skips}
-use Rattle.line.proofs.Feeding.{stays, skips-none, skips-then}
+use Rattle.line.specs.Feed.{Skips, Countable}
+use Rattle.line.proofs.Feeding.{stays, skips-none, skips-byte}
 use Rattle.line.proofs.body.Statement.{statement}
 use Rattle.line.proofs.body.Tie as tie
 
 abbrev Inv-loop : tie.InvT-loop
-Inv-loop store₀ low had size s from got₀ i₀ store got i =
-    (2 ≤ got) × (got < size + 2) × Skips s from (holding (reading false low had size) store₀) i (holding (reading false low got size) store)
+Inv-loop store₀ low had size count s from got₀ i₀ store got i =
+    (2 ≤ got) × (got < size + 2) × Countable got (count + (i - from))
+    × Skips s from (holding (reading false low had size count) store₀) i (holding (reading false low got size (count + (i - from))) store)
 
 abbrev μ-loop : tie.MeasureT-loop
-μ-loop store₀ low had size s from got₀ i₀ store got i = length s - i
+μ-loop store₀ low had size count s from got₀ i₀ store got i = length s - i
+
+loop-holds : tie.Need-loop-holds Inv-loop μ-loop
+loop-holds c =
+    let a = c .before .args in
+    let e : a .count + (a .from - a .from) ≡ a .count = omega arith in
+    (omega arith, omega arith, omega (arith, c .before .pre .4), rw e (skips-none _ _ _))
+
+sub-t15 : tie.Need-sub-t15 Inv-loop μ-loop
+sub-t15 c = omega (arith, c .before .before .before .before .loop .inv .3 .forward)
+
+add-t16 : tie.Need-add-t16 Inv-loop μ-loop
+add-t16 c = let v = c .before .before .before .before .loop .inv in omega (arith, v .2)
 
 returns : tie.Need-returns Inv-loop μ-loop
-returns c = c .before .before .before .before .loop .inv .2
+returns c = c .before .before .before .before .loop .inv .3
 
 -- a byte that goes into the store
 stayed : (c : tie.Else1 Inv-loop μ-loop)
@@ -43,10 +56,16 @@ loop-again c =
     let p = l .before .before .pre in
     let w = stayed (c .before) in
     let u = c .before .before .before .unescape-at .ensures (w .0) in
-    (omega arith, omega (arith, w .1), skips-then (v .2) (u .puts _ _ _ _ (v .0) (p .1) (p .2) (w .1)))
+    (omega arith, omega (arith, w .1), omega (arith, u .narrow, v .2, v .3 .forward), skips-byte _ _ _ _ _ _ _ _ _ _ _ (v .3) u (v .0) (p .1) (p .2) (w .1) (v .2))
+
+sub-t20 : tie.Need-sub-t20 Inv-loop μ-loop
+sub-t20 c = omega (arith, c .before .loop .inv .3 .forward)
+
+add-t21 : tie.Need-add-t21 Inv-loop μ-loop
+add-t21 c = omega (arith, c .before .loop .inv .2)
 
 returns-2 : tie.Need-returns-2 Inv-loop μ-loop
-returns-2 c = c .before .loop .inv .2
+returns-2 c = c .before .loop .inv .3
 
 pub body-spec : {M : Type 1} → statement M
 body-spec =
@@ -54,9 +73,11 @@ body-spec =
     (tie.spec
     Inv-loop
     μ-loop
-    (λ c. (omega arith, omega arith, skips-none _ _ _))
+    loop-holds
     (λ c κs. omega arith)
     (λ c κs. tt)
+    sub-t15
+    add-t16
     returns
     (λ c. omega arith)
     element-write-store
@@ -64,4 +85,6 @@ body-spec =
     add-i
     loop-less
     loop-again
+    sub-t20
+    add-t21
     returns-2)

@@ -1,4 +1,5 @@
 -- `unescape_at` meets its contract. Assumes nothing.
+use Prim.Native.Nat.{_+_}
 use mathlib.Core.Path.{refl, ap, _∙_}
 use mathlib.Core.Bool.{true}
 use native.Mathlib.Omega.{arith}
@@ -18,7 +19,8 @@ returns-2 c = λ w.
     let a = c .before .before .before .args in
     record {
       fits = omega arith;
-      puts = λ low got size st h2 h5 h512 hg. plain-next low got size h2 h5 h512 hg (a .s .now) st (a .i) (c .before .before .before .pre) (c .before .if1 .left) (c .if2 .taken);
+      narrow = omega arith;
+      puts = λ low got size count st h2 h5 h512 hg hc. plain-next low got size count h2 h5 h512 hg hc (a .s .now) st (a .i) (c .before .before .before .pre) (c .before .if1 .left) (c .if2 .taken);
     }
 
 returns-3 : tie.Need-returns-3
@@ -29,9 +31,10 @@ returns-4 c = λ w.
     let a = c .before .before .before .before .before .before .args in
     record {
       fits = omega arith;
-      puts = λ low got size st h2 h5 h512 hg.
-          escaped-next low got size h2 h5 h512 hg (a .s .now) st (a .i) 0x7E (omega arith) (c .before .before .before .if2 .left)
-          (ap (moveOf (reading true low got size)) (c .if4 .taken) ∙ move-3E low got size h5 h512 (omega arith));
+      narrow = omega arith;
+      puts = λ low got size count st h2 h5 h512 hg hc.
+          escaped-next low got size count h2 h5 h512 hg hc (a .s .now) st (a .i) 0x7E (omega arith) (c .before .before .before .if2 .left)
+          (ap (moveOf (reading true low got size (count + 1))) (c .if4 .taken) ∙ move-3E low got size count h5 h512 (omega arith) (omega arith));
     }
 
 returns-5 : tie.Need-returns-5
@@ -39,9 +42,10 @@ returns-5 c = λ w.
     let a = c .before .before .before .before .before .before .before .args in
     record {
       fits = omega arith;
-      puts = λ low got size st h2 h5 h512 hg.
-          escaped-next low got size h2 h5 h512 hg (a .s .now) st (a .i) 0x5C (omega arith) (c .before .before .before .before .if2 .left)
-          (ap (moveOf (reading true low got size)) (c .if5 .taken) ∙ move-1C low got size h5 h512 (omega arith));
+      narrow = omega arith;
+      puts = λ low got size count st h2 h5 h512 hg hc.
+          escaped-next low got size count h2 h5 h512 hg hc (a .s .now) st (a .i) 0x5C (omega arith) (c .before .before .before .before .if2 .left)
+          (ap (moveOf (reading true low got size (count + 1))) (c .if5 .taken) ∙ move-1C low got size count h5 h512 (omega arith) (omega arith));
     }
 
 returns-6 : tie.Need-returns-6

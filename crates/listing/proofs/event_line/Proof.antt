@@ -1,6 +1,7 @@
 -- `event_line` meets its contract. Assumes nothing.
-use Rattle.text.proofs.Puts.{puts-none, puts-then}
-use Rattle.listing.proofs.Lines.{frame-put}
+use Rattle.text.specs.Ascii.{ascii}
+use Rattle.text.proofs.Puts.{puts-none}
+use Rattle.listing.proofs.Lines.{entry-put}
 use borrow.Author.Needs.{needs}
 use Rattle.listing.proofs.event_line.Statement.{statement}
 use Rattle.listing.proofs.event_line.Tie as tie
@@ -12,12 +13,13 @@ returns-2 : tie.Need-returns-2
 returns-2 c =
     let n = c .before .before .before .before .before .before .before in
     let m = n .before .before .before .before .before in
-    rw (m .before .before .before .before .e .given .1) (frame-put _ _ (m .named .ensures) (n .named2 .ensures) (c .before .before .put .ensures))
+    rw (m .before .before .before .before .e .given .1) (entry-put (ascii "frame ") _ _ (m .named .ensures) (n .named2 .ensures) (c .before .before .put .ensures))
 
 returns-3 : tie.Need-returns-3
 returns-3 c =
     let n = c .before .before .before .before .before .before .before in
-    rw (n .before .before .before .before .e2 .given .1) (puts-then (n .named3 .ensures) (c .before .before .put2 .ensures))
+    let m = n .before .before .before .before .before in
+    rw (m .before .before .before .before .e2 .given .1) (entry-put (ascii "refused ") _ _ (m .named3 .ensures) (n .named4 .ensures) (c .before .before .put2 .ensures))
 
 pub event-line-spec : {M : Type 1} → statement M
 event-line-spec =
@@ -34,6 +36,8 @@ event-line-spec =
     (λ c κs. search needs)
     (λ c. search needs)
     (λ c. search needs)
+    (λ c. search needs)
+    (λ c κs. search needs)
     (λ c. search needs)
     (λ c κs. search needs)
     (λ c. search needs)

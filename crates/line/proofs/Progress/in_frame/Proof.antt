@@ -18,4 +18,4 @@ unfolding moves.inFrameMove
 returns-3 c = simp (c .before .before .if1 .left, ne-eqb _ _ (c .before .if2 .left), c .taken .ensures)
 
 pub in-frame-spec : {M : Type 1} → statement M
-in-frame-spec = tie.close (tie.spec (λ c κs. search needs) (λ c κs. search needs) returns returns-2 returns-3)
+in-frame-spec = tie.close (tie.spec (λ c. search needs) (λ c κs. search needs) (λ c κs. search needs) returns returns-2 returns-3)

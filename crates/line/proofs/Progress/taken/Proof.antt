@@ -1,5 +1,5 @@
 -- `Progress::taken` meets its contract. Assumes nothing.
-use Prim.Native.Nat.{_+_, _*_}
+use Prim.Native.Nat.{ℕ, _+_, _*_}
 use mathlib.Core.Path.{_≡_, ap, _∙_}
 use native.Mathlib.Omega.{arith}
 use Rattle.line.specs.Moves as moves
@@ -18,7 +18,7 @@ returns-2 c =
     let a = c .before .before .before .before .before .args in
     let e : c .before .before .wide .result + 256 * c .before .wide2 .result ≡ a .self .low + 256 * a .v = omega arith in
     simp (ne-eqb _ _ (c .before .before .before .before .if1 .left), eq-eqb _ _ (c .before .before .before .if2 .taken))
-    (c .sized .ensures ∙ ap moves.sizedMove e)
+    (c .sized .ensures ∙ ap (λ (n : ℕ). moves.sizedMove n (a .self .count)) e)
 
 returns-3 : tie.Need-returns-3
 unfolding moves.takenMove

@@ -1,9 +1,9 @@
--- `stored` meets its contract. Assumes nothing.
+-- `Progress::stored` meets its contract. Assumes nothing.
 use Rattle.line.specs.Moves as moves
 use borrow.Author.Tests.{eq-eqb, ne-eqb}
 use borrow.Author.Needs.{needs}
-use Rattle.line.proofs.stored.Statement.{statement}
-use Rattle.line.proofs.stored.Tie as tie
+use Rattle.line.proofs.Progress.stored.Statement.{statement}
+use Rattle.line.proofs.Progress.stored.Tie as tie
 
 returns : tie.Need-returns
 unfolding moves.storedMove
@@ -11,16 +11,9 @@ returns c = simp (eq-eqb _ _ (c .before .if1 .taken), c .idle .ensures)
 
 returns-2 : tie.Need-returns-2
 unfolding moves.storedMove
-returns-2 c = simp (ne-eqb _ _ (c .if1 .left))
+returns-2 c = simp (ne-eqb _ _ (c .before .if1 .left))
 
 pub stored-spec : {M : Type 1} → statement M
 stored-spec =
     tie.close
-    (tie.spec
-    (λ c. search needs)
-    (λ c κs. search needs)
-    (λ c. search needs)
-    (λ c. search needs)
-    (λ c. search needs)
-    returns
-    returns-2)
+    (tie.spec (λ c. search needs) (λ c. search needs) (λ c κs. search needs) (λ c. search needs) returns returns-2)
