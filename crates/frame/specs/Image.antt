@@ -33,6 +33,6 @@ body wrapper payload = covered wrapper payload ++ le 2 (crcOf (covered wrapper p
 abbrev pub wireFrame : ℕ → List ℕ → List ℕ
 wireFrame size bytes = 0x7E ∷ escape (le 2 size ++ bytes)
 
--- ours
+-- the frame that we write
 abbrev pub image : ℕ → List ℕ → List ℕ
 image wrapper payload = wireFrame (length payload + 5) (body wrapper payload)

@@ -16,9 +16,9 @@ use Rattle.wire.proofs.Lists.{part-in}
 use Rattle.crc.specs.Crc.{crcOf}
 use Rattle.frame.specs.Image.{wireFrame, image, body, covered, escape, escapeByte, isMark}
 use Rattle.frame.proofs.Escape.{escape-byte-length}
-use Rattle.line.specs.Receive.{stepOf, busy, unfinished, finished, reading, idle, holding, idleReceiver, stepTo, framePayload, freshReceiver}
+use Rattle.line.specs.Receive.{stepOf, busy, midFrame, finished, reading, idle, holding, idleReceiver, stepTo, framePayload, freshReceiver}
 use Rattle.line.specs.Moves.{moveOf, takenMove, storedMove, sizedMove, keep, acted, storeAfter}
-use Rattle.line.specs.Feed.{Countable}
+use Rattle.line.specs.Feed.{CountBounded}
 use Rattle.line.specs.Line.{Emitted, refusal, frame, emitted, frameGives, gives, insideGives, run, after, SentFrame, lineOf, framesOf, NoStart, Sendable}
 use Rattle.line.proofs.Gives.{finished-gives, step-gives}
 use Rattle.line.proofs.Run.{run-append}
@@ -47,7 +47,7 @@ run-move r b rest m e =
     ∙ ap (λ (t : Step). emittedThen t (run rest)) (step-moves r b)
     ∙ ap (movedThen rest (r .store)) e
 
-module _ (low got size count : ℕ) (h5 : 5 ≤ size) (h512 : size ≤ 512) (hg : got < size + 2) (hc : Countable got count) where
+module _ (low got size count : ℕ) (h5 : 5 ≤ size) (h512 : size ≤ 512) (hg : got < size + 2) (hc : CountBounded (reading false low got size count)) where
   -- one byte, escaped where it is a mark, is taken as it is
   byte : (s : List ℕ) (v : ℕ) (rest : List ℕ)
       → run (escapeByte v ++ rest) (holding (reading false low got size count) s)
@@ -96,7 +96,7 @@ abbrev done : ℕ → ℕ → List ℕ → Step
 done size place s = stepTo idle s (finished size place s)
 
 reads : (n : ℕ) → 5 ≤ n → n ≤ 512 → (rest : List ℕ) (todo : List ℕ) (v g k c : ℕ) (s : List ℕ)
-    → g ≡ k + 2 → k + length todo + 1 ≡ n → Countable g c
+    → g ≡ k + 2 → k + length todo + 1 ≡ n → CountBounded (reading false 0 g n c)
     → run (escape (v ∷ todo) ++ rest) (holding (reading false 0 g n c) s) ≡ emittedThen (done n (c + length (escape (v ∷ todo))) (sets s k (v ∷ todo))) (run rest)
 unfolding escape
 reads n h5 h512 rest [] v g k c s eg en hc =
@@ -164,8 +164,8 @@ head n s bs rest h5 h512 =
     ∙ byte lo 1 5 c (omega arith) (omega arith) (omega arith) (omega (arith, escape-byte-length lo .1)) s hi (escape bs ++ rest)
     ∙ ap (movedThen (escape bs ++ rest) s) (ap (λ (z : ℕ). sizedMove z (headLength n)) q ∙ sized-in n (headLength n) h5 h512))
 
-head-countable : (n : ℕ) → Countable 2 (headLength n)
-head-countable n = omega (arith, escape-byte-length (n % 0x100) .1, escape-byte-length (n / 0x100) .1)
+head-bounded : (n : ℕ) → CountBounded (reading false 0 2 n (headLength n))
+head-bounded n = omega (arith, escape-byte-length (n % 0x100) .1, escape-byte-length (n / 0x100) .1)
 
 frame-bytes : (n : ℕ) (bs : List ℕ) → headLength n + length (escape bs) ≡ length (wireFrame n bs)
 unfolding escape
@@ -186,7 +186,7 @@ any-frame r n (b ∷ bs) rest h5 h512 l hs =
     start r x
     ∙ ap (λ (z : List Emitted). atStart r ++ z)
     (head n s (b ∷ bs) rest h5 h512
-    ∙ reads n h5 h512 rest bs b 2 0 (headLength n) s refl (omega arith) (head-countable n)
+    ∙ reads n h5 h512 rest bs b 2 0 (headLength n) s refl (omega arith) (head-bounded n)
     ∙ ap (λ (z : ℕ). emittedThen (done n z (sets s 0 (b ∷ bs))) (run rest)) (frame-bytes n (b ∷ bs))
     ∙ ap (λ (z : List ℕ). emittedThen (done n (length (wireFrame n (b ∷ bs))) z) (run rest)) st)
 
@@ -230,7 +230,7 @@ noise r h [] rest ok = refl
 noise r h (b ∷ bs) rest ok = run-move r b (bs ++ rest) (keep (r .progress)) (move-idle (r .progress) b h (ok .0)) ∙ noise r h bs rest (ok .1)
 
 pub idle-busy : busy idle ≡ false
-unfolding busy unfinished
+unfolding busy midFrame
 idle-busy = refl
 
 body-length : (wrapper : ℕ) (payload s : List ℕ) → length s ≡ 512 → length payload ≤ 507
@@ -239,7 +239,7 @@ body-length wrapper payload s hs hp = simp (length-append, length-drop) (omega a
 
 -- an idle receiver gives the frames of a line in order, and nothing else
 pub frames : (fs : List SentFrame) (s : List ℕ) → length s ≡ 512 → Sendable fs → run (lineOf fs) (idleReceiver s) ≡ framesOf fs
-unfolding lineOf framesOf run busy unfinished
+unfolding lineOf framesOf run busy midFrame
 frames [] s hs ok = refl
 frames (f ∷ fs) s hs ok =
     let s′ : List ℕ = body (f .wrapper) (f .payload) ++ drop (length (f .payload) + 5) s in

@@ -13,7 +13,7 @@ use Rattle.wire.specs.Choice.{pick}
 use Rattle.wire.proofs.Choice.{pick-all, true-false, or-fails}
 use Rattle.line.specs.Receive.{busy, reading, holding, stepTo, stepOf}
 use Rattle.line.specs.Moves.{moveOf, takenMove, storedMove, keep, storeAfter, eventOf, ActsOn}
-use Rattle.line.specs.Feed.{Fed, fed, fedTo, silent, Feeds, Skips, Countable, Unescapes, Passes}
+use Rattle.line.specs.Feed.{Fed, fed, fedTo, silent, Feeds, Skips, CountBounded, Unescapes, Passes}
 use Rattle.line.specs.Line.{Emitted, emitted, run, after}
 use Rattle.line.proofs.Gives.{step-gives}
 use Rattle.line.proofs.Run.{run-one, run-append}
@@ -50,7 +50,7 @@ unfolding fed
 feed-end s i r h = ap (λ (l : List ℕ). fed i l r) (drop-of-length-le s h)
 
 -- ---- a byte of a frame behind its size that is not the last
-module _ (low got size count : ℕ) (h2 : 2 ≤ got) (h5 : 5 ≤ size) (h512 : size ≤ 512) (hg : got ≤ size) (hc : Countable got count) where
+module _ (low got size count : ℕ) (h2 : 2 ≤ got) (h5 : 5 ≤ size) (h512 : size ≤ 512) (hg : got ≤ size) (hc : CountBounded (reading false low got size count)) where
   -- the record after it, and the move that puts it into the store
   abbrev next : ℕ → Progress
   next w = reading false low (got + 1) size (count + w)
@@ -119,7 +119,7 @@ skips-then p q = record { forward = omega arith; same = p .same ∙ q .same }
 -- a byte of a frame more, where the count is known from the place
 pub skips-byte : (s : List ℕ) (from i w v low got size count : ℕ) (r : Receiver) (st : List ℕ)
     → Skips s from r i (holding (reading false low got size (count + (i - from))) st)
-    → Unescapes s i w v → 2 ≤ got → 5 ≤ size → size ≤ 512 → got ≤ size → Countable got (count + (i - from))
+    → Unescapes s i w v → 2 ≤ got → 5 ≤ size → size ≤ 512 → got ≤ size → CountBounded (reading false low got size (count + (i - from)))
     → Skips s from r (i + w) (holding (reading false low (got + 1) size (count + (i + w - from))) (set st (got - 2) v))
 skips-byte s from i w v low got size count r st p u h2 h5 h512 hg hc =
     let e : count + (i - from) + w ≡ count + (i + w - from) = omega (arith, p .forward) in

@@ -8,7 +8,7 @@ use lib.Dec.{leb, ltb, eqb}
 use borrow.Author.Tests.{leb-true, ltb-true, eqb-true, eqb-false, ne-eqb, le-leb, lt-ltb}
 use Rattle.wire.specs.Choice.{pick}
 use Rattle.wire.proofs.Choice.{pick-all, and-holds}
-use Rattle.line.specs.Receive.{within, unfinished, busy, counted, sized, stored, taken, unescaped, inFrame, stepOf, reading, holding, stepTo}
+use Rattle.line.specs.Receive.{within, midFrame, busy, counted, sized, stored, taken, unescaped, inFrame, stepOf, reading, holding, stepTo}
 use Rattle.line.specs.Moves.{sizedMove, storedMove, takenMove, unescapedMove, inFrameMove, moveOf, keep, WithinLimits, acted, storeAfter, eventOf, ActsOn}
 use Rattle.line.specs.declared.Action.{Action}
 use Rattle.line.specs.declared.Action.the-variants.{Keep, Refuse}
@@ -29,9 +29,9 @@ pub record Counts (p : Progress) : Type 0 where
   pub most : p .size ≤ 512
   pub more : p .got < p .size + 2
 
-pub unfinished-counts : (p : Progress) → unfinished p ≡ true → Counts p
-unfolding unfinished
-unfinished-counts p t =
+pub mid-frame-counts : (p : Progress) → midFrame p ≡ true → Counts p
+unfolding midFrame
+mid-frame-counts p t =
     let q = and-holds (p .inside) (within (p .size) && ltb (p .got) (p .size + 2)) t in
     let w = and-holds (within (p .size)) (ltb (p .got) (p .size + 2)) (q .1) in
     let l = within-limits (p .size) (w .0) in
@@ -40,8 +40,8 @@ unfinished-counts p t =
 pub busy-counts : (p : Progress) → busy p ≡ true → Counts p × (p .count < 1029)
 unfolding busy
 busy-counts p t =
-    let q = and-holds (unfinished p) (ltb (p .count) 1029) t in
-    (unfinished-counts p (q .0), ltb-true _ _ (q .1))
+    let q = and-holds (midFrame p) (ltb (p .count) 1029) t in
+    (mid-frame-counts p (q .0), ltb-true _ _ (q .1))
 
 -- ---- the action of a move is within the limits
 MoveWithin : Move → Type 0
@@ -135,7 +135,7 @@ stepped p b s m l e h o =
 -- ---- moves inside a frame, from a count that leaves two below the limit
 module _ (low got size count : ℕ) (h5 : 5 ≤ size) (h512 : size ≤ 512) (hg : got < size + 2) (hc : count + 1 < 1029) where
   reading-busy : (e : Bool) (n : ℕ) → n < 1029 → busy (reading e low got size n) ≡ true
-  unfolding busy unfinished
+  unfolding busy midFrame
   reading-busy e n h = simp (le-leb _ _ h5, le-leb _ _ h512, lt-ltb _ _ hg, lt-ltb _ _ h)
 
   -- one that is no mark

@@ -11,11 +11,12 @@ use Rattle.wire.specs.Choice.{pick}
 use Rattle.wire.proofs.Choice.{pick-all, and-holds, true-false}
 use Rattle.frame.specs.Image.{wireFrame}
 use Rattle.frame.proofs.Escape.{frame-length}
-use Rattle.line.specs.Receive.{within, unfinished, busy, counted, reading, idle, holding, freshReceiver, stepOf}
+use Rattle.line.specs.Receive.{within, midFrame, busy, counted, reading, idle, holding, freshReceiver, stepOf}
 use Rattle.line.specs.Moves.{moveOf, inFrameMove, unescapedMove, takenMove, sizedMove, storedMove, acted}
+use Rattle.line.specs.Feed.{CountBounded}
 use Rattle.line.specs.Line.{Emitted, gives, run, after, EachRefusal, NoStart}
 use Rattle.line.specs.Places.{FromStart, Places}
-use Rattle.line.proofs.Moves.{unfinished-counts, step-moves}
+use Rattle.line.proofs.Moves.{mid-frame-counts, step-moves}
 use Rattle.line.proofs.Run.{Given, gives-given, each, run-limits}
 use Rattle.line.proofs.Delivery.{frame-finished}
 use Rattle.line.specs.declared.Progress.{Progress}
@@ -24,15 +25,8 @@ use Rattle.line.specs.declared.Receiver.{Receiver}
 use Rattle.line.specs.declared.Step.{Step}
 
 -- ---- the count of a record, and the bytes that led to it
--- the most that the start byte, two bytes for each unescaped one, and an escape byte come to
-abbrev escapes : Bool → ℕ
-escapes t = pick t 1 0
-
-abbrev Paced : Progress → Type 0
-Paced p = p .count ≤ 1 + 2 * p .got + escapes (p .escaped)
-
 record Follows (bs : List ℕ) (p : Progress) : Type 0 where
-  paced : Paced p
+  bounded : CountBounded p
   before : List ℕ
   behind : List ℕ
   begun : bs ≡ before ++ (0x7E ∷ behind)
@@ -40,59 +34,59 @@ record Follows (bs : List ℕ) (p : Progress) : Type 0 where
   counts : p .count ≡ length (0x7E ∷ behind)
 
 abbrev Led : List ℕ → Progress → Type 0
-Led bs p = unfinished p ≡ true → Follows bs p
+Led bs p = midFrame p ≡ true → Follows bs p
 
 -- then the count is below its limit
-escape-one : (t : Bool) → escapes t ≤ 1
+escape-one : (t : Bool) → pick t 1 0 ≤ 1
 escape-one true = omega arith
 escape-one false = omega arith
 
-paced-busy : (p : Progress) → unfinished p ≡ true → Paced p → busy p ≡ true
+bounded-busy : (p : Progress) → midFrame p ≡ true → CountBounded p → busy p ≡ true
 unfolding busy
-paced-busy p t h =
-    let k = unfinished-counts p t in
+bounded-busy p t h =
+    let k = mid-frame-counts p t in
     let c : p .count < 1029 = omega (arith, k .most, k .more, h, escape-one (p .escaped)) in
     simp (t, lt-ltb _ _ c)
 
-busy-unfinished : (p : Progress) → busy p ≡ true → unfinished p ≡ true
+busy-mid-frame : (p : Progress) → busy p ≡ true → midFrame p ≡ true
 unfolding busy
-busy-unfinished p t = and-holds (unfinished p) (ltb (p .count) 1029) t .0
+busy-mid-frame p t = and-holds (midFrame p) (ltb (p .count) 1029) t .0
 
 -- ---- one byte
 -- what a byte inside a frame makes of the count, unless it ends the frame
-abbrev Counts : Progress → Move → Type 0
-Counts p m = unfinished (m .progress) ≡ true → (m .progress .count ≡ p .count + 1) × Paced (m .progress)
+abbrev NextCount : Progress → Move → Type 0
+NextCount p m = midFrame (m .progress) ≡ true → (m .progress .count ≡ p .count + 1) × CountBounded (m .progress)
 
-none : (p : Progress) (t : unfinished idle ≡ true) → (idle .count ≡ p .count + 1) × Paced idle
-unfolding unfinished
+none : (p : Progress) (t : midFrame idle ≡ true) → (idle .count ≡ p .count + 1) × CountBounded idle
+unfolding midFrame
 none p t = true-false (sym t)
 
-taken-counts : (p : Progress) (v : ℕ) → Paced p → Counts p (takenMove (counted p) v)
+taken-counts : (p : Progress) (v : ℕ) → CountBounded p → NextCount p (takenMove (counted p) v)
 unfolding takenMove sizedMove storedMove
 taken-counts p v h =
     let one = escape-one (p .escaped) in
-    pick-all (Counts p) (eqb (p .got) 0) (λ e t. (refl, omega (arith, h, one, eqb-true (p .got) 0 e)))
-    (λ z. pick-all (Counts p) (eqb (p .got) 1)
-    (λ e. pick-all (Counts p) (within (p .low + 256 * v)) (λ w t. (refl, omega (arith, h, one, eqb-true (p .got) 1 e))) (λ w. none p))
-    (λ y. pick-all (Counts p) (eqb (p .got) (p .size + 1)) (λ e. none p) (λ e t. (refl, omega (arith, h, one)))))
+    pick-all (NextCount p) (eqb (p .got) 0) (λ e t. (refl, omega (arith, h, one, eqb-true (p .got) 0 e)))
+    (λ z. pick-all (NextCount p) (eqb (p .got) 1)
+    (λ e. pick-all (NextCount p) (within (p .low + 256 * v)) (λ w t. (refl, omega (arith, h, one, eqb-true (p .got) 1 e))) (λ w. none p))
+    (λ y. pick-all (NextCount p) (eqb (p .got) (p .size + 1)) (λ e. none p) (λ e t. (refl, omega (arith, h, one)))))
 
-in-frame-counts : (p : Progress) (b : ℕ) → Paced p → Counts p (inFrameMove (counted p) b)
+in-frame-counts : (p : Progress) (b : ℕ) → CountBounded p → NextCount p (inFrameMove (counted p) b)
 unfolding inFrameMove unescapedMove
 in-frame-counts p b h =
-    pick-all (Counts p) (p .escaped)
-    (λ x. pick-all (Counts p) (eqb b 0x3E) (λ e. taken-counts p 0x7E h)
-    (λ y. pick-all (Counts p) (eqb b 0x1C) (λ e. taken-counts p 0x5C h) (λ e. none p)))
-    (λ x. pick-all (Counts p) (eqb b 0x5C) (λ e t. (refl, omega (arith, h, ap escapes x))) (λ e. taken-counts p b h))
+    pick-all (NextCount p) (p .escaped)
+    (λ x. pick-all (NextCount p) (eqb b 0x3E) (λ e. taken-counts p 0x7E h)
+    (λ y. pick-all (NextCount p) (eqb b 0x1C) (λ e. taken-counts p 0x5C h) (λ e. none p)))
+    (λ x. pick-all (NextCount p) (eqb b 0x5C) (λ e t. (refl, omega (arith, h, ap {B = ℕ} (λ (t : Bool). pick t 1 0) x))) (λ e. taken-counts p b h))
 
 clear-more : (bs : List ℕ) (b : ℕ) → NoStart bs → (b ≡ 0x7E → ⊥) → NoStart (bs ++ (b ∷ []))
 clear-more [] b h n = (n, tt)
 clear-more (x ∷ bs) b h n = (h .0, clear-more bs b (h .1) n)
 
 -- a byte that is no start byte, inside a frame
-follows-more : (bs : List ℕ) (b : ℕ) (p q : Progress) → Follows bs p → (b ≡ 0x7E → ⊥) → q .count ≡ p .count + 1 → Paced q → Follows (bs ++ (b ∷ [])) q
+follows-more : (bs : List ℕ) (b : ℕ) (p q : Progress) → Follows bs p → (b ≡ 0x7E → ⊥) → q .count ≡ p .count + 1 → CountBounded q → Follows (bs ++ (b ∷ [])) q
 follows-more bs b p q f n e h =
     record {
-      paced = h;
+      bounded = h;
       before = f .before;
       behind = f .behind ++ (b ∷ []);
       begun = ap (λ (l : List ℕ). l ++ (b ∷ [])) (f .begun) ∙ append-assoc (f .before) (0x7E ∷ f .behind) (b ∷ []);
@@ -103,7 +97,7 @@ follows-more bs b p q f n e h =
 -- the record just after a start byte
 follows-start : (bs : List ℕ) (b : ℕ) → b ≡ 0x7E → Follows (bs ++ (b ∷ [])) (reading false 0 0 5 1)
 follows-start bs b e =
-    record { paced = omega arith; before = bs; behind = []; begun = ap (λ (x : ℕ). bs ++ (x ∷ [])) e; clear = tt; counts = refl }
+    record { bounded = omega arith; before = bs; behind = []; begun = ap (λ (x : ℕ). bs ++ (x ∷ [])) e; clear = tt; counts = refl }
 
 move-led : (bs : List ℕ) (b : ℕ) (p : Progress) → Led bs p → Led (bs ++ (b ∷ [])) (moveOf p b .progress)
 unfolding moveOf
@@ -112,10 +106,10 @@ move-led bs b p f =
     (λ e t. follows-start bs b (eqb-true _ _ e))
     (λ n. pick-all (λ (m : Move). Led (bs ++ (b ∷ [])) (m .progress)) (busy p)
     (λ y t.
-    let g = f (busy-unfinished p y) in
-    let c = in-frame-counts p b (g .paced) t in
+    let g = f (busy-mid-frame p y) in
+    let c = in-frame-counts p b (g .bounded) t in
     follows-more bs b p (inFrameMove (counted p) b .progress) g (eqb-false _ _ n) (c .0) (c .1))
-    (λ y t. true-false (sym (paced-busy p t (f t .paced)) ∙ y)))
+    (λ y t. true-false (sym (bounded-busy p t (f t .bounded)) ∙ y)))
 
 -- ---- many bytes
 after-led : (bs more : List ℕ) (r : Receiver) → Led bs (r .progress) → Led (bs ++ more) (after more r .progress)
@@ -128,7 +122,7 @@ after-led bs (b ∷ more) r f =
     (after-led (bs ++ (b ∷ [])) more q (subst (Led (bs ++ (b ∷ []))) e (move-led bs b (r .progress) f)))
 
 fresh-led : (bs : List ℕ) → Led bs (after bs freshReceiver .progress)
-unfolding unfinished
+unfolding midFrame
 fresh-led bs = after-led [] bs freshReceiver (λ t. true-false (sym t))
 
 start-led : (r : Receiver) (bs : List ℕ) → Led (0x7E ∷ bs) (after (0x7E ∷ bs) r .progress)
@@ -140,7 +134,7 @@ from-start : (bs : List ℕ) (b : ℕ) (r : Receiver) → Led bs (r .progress) �
 from-start bs b r f =
     each (Given (r .progress)) (λ n place. FromStart bs b place)
     (λ n place h.
-    let g = f (busy-unfinished (r .progress) (h .inside)) in
+    let g = f (busy-mid-frame (r .progress) (h .inside)) in
     record {
       before = g .before;
       behind = g .behind;
@@ -150,9 +144,9 @@ from-start bs b r f =
     })
     (gives r b) (gives-given r b)
 
-not-idle : (p : Progress) (x y : Bool) → busy p ≡ x → unfinished p ≡ y → (unfinished p ≡ true → Paced p) → x ≡ y
-not-idle p true y e g f = sym (busy-unfinished p e) ∙ g
-not-idle p false true e g f = sym e ∙ paced-busy p g (f g)
+not-idle : (p : Progress) (x y : Bool) → busy p ≡ x → midFrame p ≡ y → (midFrame p ≡ true → CountBounded p) → x ≡ y
+not-idle p true y e g f = sym (busy-mid-frame p e) ∙ g
+not-idle p false true e g f = sym e ∙ bounded-busy p g (f g)
 not-idle p false false e g f = refl
 
 pub places : Places
@@ -161,7 +155,7 @@ places =
       limits = run-limits;
       fresh = λ bs b. from-start bs b (after bs freshReceiver) (fresh-led bs);
       started = λ r bs b. from-start (0x7E ∷ bs) b (after (0x7E ∷ bs) r) (start-led r bs);
-      middle = λ r bs. not-idle (after (0x7E ∷ bs) r .progress) _ _ refl refl (λ t. start-led r bs t .paced);
+      middle = λ r bs. not-idle (after (0x7E ∷ bs) r .progress) _ _ refl refl (λ t. start-led r bs t .bounded);
       bounds = frame-length;
       whole = frame-finished;
     }

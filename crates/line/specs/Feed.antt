@@ -46,16 +46,17 @@ pub record Skips (s : List ℕ) (from : ℕ) (r : Receiver) (to : ℕ) (r′ : R
   pub forward : from ≤ to
   pub same : fed from (drop from s) r ≡ fed to (drop to s) r′
 
--- what a frame's start byte and its unescaped bytes, two bytes each at most, can bring the count to
-abbrev pub Countable : ℕ → ℕ → Type 0
-Countable got count = count ≤ 1 + 2 * got
+-- the count is at most the start byte, two bytes for each unescaped one, and an escape byte: from a start byte on it always is
+abbrev pub CountBounded : Progress → Type 0
+CountBounded p = p .count ≤ 1 + 2 * p .got + pick (p .escaped) 1 0
 
--- v is the unescaped byte at a place of s, w bytes on the line: behind a frame's size, where it is not the last, it is put into the store
+-- v is the unescaped byte at a place of s, w bytes on the line: behind a frame's size, where it is not the last, it is put into the store,
+-- and w counted
 pub record Unescapes (s : List ℕ) (i w v : ℕ) : Type 0 where
   pub fits : i + w ≤ length s
   pub narrow : w ≤ 2
   pub puts :
-      (low got size count : ℕ) (st : List ℕ) → 2 ≤ got → 5 ≤ size → size ≤ 512 → got ≤ size → Countable got count
+      (low got size count : ℕ) (st : List ℕ) → 2 ≤ got → 5 ≤ size → size ≤ 512 → got ≤ size → CountBounded (reading false low got size count)
       → Skips s i (holding (reading false low got size count) st) (i + w) (holding (reading false low (got + 1) size (count + w)) (set st (got - 2) v))
 
 -- between two places of s nothing happens to a receiver that is inside no frame

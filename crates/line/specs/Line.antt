@@ -24,7 +24,7 @@ pub data Emitted : Type 0 where
   frame : ℕ → ℕ → ℕ → ℕ → List ℕ → Emitted
 
 -- ---- what one byte gives, from the record and the byte alone. The numbers are those of document 01's table; a refusal's place is the count
--- of the frame's bytes on the line up to this byte
+-- of bytes on the line from the frame's start byte, itself counted as 1, up to and including this byte
 -- a frame of this size is complete in the store: 4 where the CRC over major through payload differs
 unfoldable pub frameGives : ℕ → ℕ → List ℕ → List Emitted
 frameGives size place s =

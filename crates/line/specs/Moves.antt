@@ -55,7 +55,7 @@ moveOf p b =
     (pick (busy p) (inFrameMove (counted p) b) (keep p))
 
 -- ---- the store
--- the place that an action writes to is one of the store, and a size is 5 to 512
+-- an action writes to the store's 512 bytes, and a size is 5 to 512
 abbrev pub WithinLimits : Action → Type 0
 WithinLimits Keep = Unit {0}
 WithinLimits (Put at v) = at < 512

@@ -4,7 +4,7 @@ use mathlib.Core.Path.{_≡_}
 use mathlib.Core.List.{List, [], _∷_, _++_}
 use lib.ListN.{length, drop}
 use Rattle.frame.specs.Image.{wireFrame}
-use Rattle.line.specs.Receive.{unfinished, busy, freshReceiver}
+use Rattle.line.specs.Receive.{midFrame, busy, freshReceiver}
 use Rattle.line.specs.Line.{frameGives, gives, run, after, EachRefusal, Limits, NoStart}
 use Rattle.line.specs.declared.Receiver.{Receiver}
 
@@ -25,7 +25,7 @@ pub record Places : Type 0 where
   -- to any record from a start byte on: at each byte behind that one
   pub started : (r : Receiver) (bs : List ℕ) (b : ℕ) → EachRefusal (λ n place. FromStart (0x7E ∷ bs) b place) (gives (after (0x7E ∷ bs) r) b)
   -- from there on, no frame is taken as idle in its middle
-  pub middle : (r : Receiver) (bs : List ℕ) → busy (after (0x7E ∷ bs) r .progress) ≡ unfinished (after (0x7E ∷ bs) r .progress)
+  pub middle : (r : Receiver) (bs : List ℕ) → busy (after (0x7E ∷ bs) r .progress) ≡ midFrame (after (0x7E ∷ bs) r .progress)
   -- a frame of any size, whatever the bytes that it counts, is at least s + 3 and at most 2s + 5 bytes on the line
   pub bounds : (size : ℕ) (bytes : List ℕ) → length bytes ≡ size
       → (size + 3 ≤ length (wireFrame size bytes)) × (length (wireFrame size bytes) ≤ 2 * size + 5)

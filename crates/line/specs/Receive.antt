@@ -37,13 +37,13 @@ freshReceiver = idleReceiver (replicate 512 0)
 abbrev pub within : ℕ → Bool
 within size = leb 5 size && leb size 512
 
--- inside a frame of which not all bytes have come
-unfoldable pub unfinished : Progress → Bool
-unfinished p = p .inside && (within (p .size) && ltb (p .got) (p .size + 2))
+-- in the middle of a frame: inside it, its size within the limits, and fewer unescaped bytes have come than it and the size's own two
+unfoldable pub midFrame : Progress → Bool
+midFrame p = p .inside && (within (p .size) && ltb (p .got) (p .size + 2))
 
--- inside an unfinished frame: a record whose counts lie outside the limits is taken as idle, and so is one whose count stands at 1029 or more
+-- inside an unfinished frame: a record whose counts lie outside these limits is taken as idle, and so is one whose count stands at 1029 or more
 unfoldable pub busy : Progress → Bool
-busy p = unfinished p && ltb (p .count) 1029
+busy p = midFrame p && ltb (p .count) 1029
 
 -- ---- one byte: how the record stands after it, and the event
 abbrev pub stepTo : Progress → List ℕ → Event → Step
@@ -63,10 +63,10 @@ sized size count s = pick (within size) (stepTo (reading false 0 2 size count) s
 
 -- the frame is complete: 4 where the CRC over major through payload differs
 unfoldable pub finished : ℕ → ℕ → List ℕ → Event
-finished size count s =
+finished size place s =
     pick (eqb (crcOf (take (size - 2) s)) (num 2 (size - 2) s))
     (Frame (getD s 0 0) (getD s 1 0) (getD s 2 0) (size - 5))
-    (Refused 4 count)
+    (Refused 4 place)
 
 -- an unescaped byte after the size goes to the next place; the last one finishes the frame
 unfoldable pub stored : Progress → List ℕ → ℕ → Step

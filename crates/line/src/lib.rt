@@ -7,7 +7,7 @@ ghost use lib.ListN.{length, take};
 ghost use Rattle.line.specs.Receive as specs;
 ghost use Rattle.line.specs.Line.{Received};
 ghost use Rattle.line.specs.Feed as feeding;
-ghost use Rattle.line.specs.Feed.{Skips, Unescapes, Countable, Feeds};
+ghost use Rattle.line.specs.Feed.{Skips, CountBounded, Unescapes, Feeds};
 ghost use Rattle.line.specs.Moves as moves;
 use wire::Part;
 
@@ -32,8 +32,8 @@ pub struct Receiver {
     pub store: [u8; 512],
 }
 
-// What a byte gives: nothing, a frame whose bytes stand in the store, or a refusal's number and place: the count of the frame's bytes on
-// the line, up to the byte that caused it.
+// What a byte gives: nothing, a frame whose bytes stand in the store, or a refusal's number and place: the count of bytes on the line from
+// the frame's start byte, itself 1, up to and including the byte that caused the refusal.
 pub enum Event {
     Nothing,
     Frame {
@@ -54,7 +54,7 @@ pub struct Step {
     pub event: Event,
 }
 
-// What is to be done with the store: nothing, a byte put in its place, a frame's last byte put in its place, or nothing and a refusal.
+// What is to be done with the store: nothing, a byte written, a frame's last byte written, or nothing and a refusal.
 enum Action {
     Keep,
     Put {
@@ -90,6 +90,20 @@ fn idle() -> Progress
         got: 0,
         size: 5,
         count: 0,
+    }
+}
+
+// The progress inside a frame.
+fn reading(escaped: bool, low: u8, got: usize, size: usize, count: usize) -> Progress
+    ensures { λ p. ⌜ p ≡ specs.reading escaped low got size count ⌝ }
+{
+    Progress {
+        inside: true,
+        escaped,
+        low,
+        got,
+        size,
+        count,
     }
 }
 
@@ -129,14 +143,7 @@ fn sized(size: usize, count: usize) -> Move
 {
     if within(size) {
         return Move {
-            progress: Progress {
-                inside: true,
-                escaped: false,
-                low: 0,
-                got: 2,
-                size,
-                count,
-            },
+            progress: reading(false, 0, 2, size, count),
             action: Action::Keep,
         };
     }
@@ -144,9 +151,9 @@ fn sized(size: usize, count: usize) -> Move
 }
 
 impl Progress {
-    // Inside a frame of which not all bytes have come.
-    fn unfinished(self) -> bool
-        ensures { λ b. ⌜ b ≡ specs.unfinished self ⌝ }
+    // In the middle of a frame, by its size and its unescaped bytes.
+    fn mid_frame(self) -> bool
+        ensures { λ b. ⌜ b ≡ specs.midFrame self ⌝ }
     {
         if self.inside {
             let size = self.size;
@@ -161,7 +168,7 @@ impl Progress {
     fn busy(self) -> bool
         ensures { λ b. ⌜ b ≡ specs.busy self ⌝ }
     {
-        if self.unfinished() {
+        if self.mid_frame() {
             return self.count < 1029;
         }
         false
@@ -185,14 +192,7 @@ impl Progress {
             }
         } else {
             Move {
-                progress: Progress {
-                    inside: true,
-                    escaped: false,
-                    low: self.low,
-                    got: self.got + 1,
-                    size: self.size,
-                    count: self.count,
-                },
+                progress: reading(false, self.low, self.got + 1, self.size, self.count),
                 action: Action::Put { at, byte: v },
             }
         }
@@ -206,14 +206,7 @@ impl Progress {
         let got = self.got;
         if got == 0 {
             Move {
-                progress: Progress {
-                    inside: true,
-                    escaped: false,
-                    low: v,
-                    got: 1,
-                    size: self.size,
-                    count: self.count,
-                },
+                progress: reading(false, v, 1, self.size, self.count),
                 action: Action::Keep,
             }
         } else if got == 1 {
@@ -254,14 +247,7 @@ impl Progress {
             p.unescaped(b)
         } else if b == 0x5C {
             Move {
-                progress: Progress {
-                    inside: true,
-                    escaped: true,
-                    low: p.low,
-                    got: p.got,
-                    size: p.size,
-                    count: p.count,
-                },
+                progress: reading(true, p.low, p.got, p.size, p.count),
                 action: Action::Keep,
             }
         } else {
@@ -274,14 +260,7 @@ impl Progress {
         ensures { λ m. ⌜ m ≡ moves.moveOf self b ⌝ }
     {
         if b == 0x7E {
-            let progress = Progress {
-                inside: true,
-                escaped: false,
-                low: 0,
-                got: 0,
-                size: 5,
-                count: 1,
-            };
+            let progress = reading(false, 0, 0, 5, 1);
             if self.busy() {
                 Move {
                     progress,
@@ -461,7 +440,7 @@ fn body(
     s: &[u8],
     from: usize,
 ) -> Skipped
-    requires { ⌜ (2 ≤ had) × (5 ≤ size) × (size ≤ 512) × (had < size + 2) × Countable had count ⌝ }
+    requires { ⌜ (2 ≤ had) × (5 ≤ size) × (size ≤ 512) × (had < size + 2) × CountBounded (specs.reading false low had size count) ⌝ }
     ensures { λ p. ⌜ Skips (now (s .entry)) from (specs.holding (specs.reading false low had size count) (now (store .entry))) (p .at) (specs.holding (p .progress) (now (store .exit))) ⌝ }
 {
     let mut got = had;
@@ -470,14 +449,7 @@ fn body(
         let u = unescape_at(s, i);
         if leaves(u.width, got, size) {
             return Skipped {
-                progress: Progress {
-                    inside: true,
-                    escaped: false,
-                    low,
-                    got,
-                    size,
-                    count: count + (i - from),
-                },
+                progress: reading(false, low, got, size, count + (i - from)),
                 at: i,
             };
         }
@@ -487,14 +459,7 @@ fn body(
         i += u.width;
     }
     Skipped {
-        progress: Progress {
-            inside: true,
-            escaped: false,
-            low,
-            got,
-            size,
-            count: count + (i - from),
-        },
+        progress: reading(false, low, got, size, count + (i - from)),
         at: i,
     }
 }
@@ -513,7 +478,7 @@ fn noise(s: &[u8], from: usize) -> usize
     i
 }
 
-// As many bytes as change nothing but the store and the count: noise, and bytes of a frame.
+// As many bytes as give no event and can be taken at once: noise, and bytes of a frame.
 fn skip(progress: Progress, store: &mut [u8; 512], s: &[u8], from: usize) -> Skipped
     ensures { λ p. ⌜ Skips (now (s .entry)) from (specs.holding progress (now (store .entry))) (p .at) (specs.holding (p .progress) (now (store .exit))) ⌝ }
 {
@@ -529,7 +494,7 @@ fn skip(progress: Progress, store: &mut [u8; 512], s: &[u8], from: usize) -> Ski
     if progress.got < 2 {
         return Skipped { progress, at: from };
     }
-    // A count that no line makes, and that may come to its limit, is left to the step.
+    // A count that no line leads to may come to its limit: it is left to the step.
     if 1 + 2 * progress.got < progress.count {
         return Skipped { progress, at: from };
     }

@@ -47,7 +47,7 @@ pub record Lists (s : List ℕ) (from : ℕ) (r : Receiver) (to : ℕ) (r′ : R
   pub puts : Puts (linesOf (run (between from to s) r)) 0 room at left
   pub whole : at ≡ length (linesOf (run (between from to s) r))
 
--- ---- frame 128 507, frame 0 3, refused 3 3
+-- ---- frame 128 507, frame 0 3, refused 2 208
 example-long : eventText (Frame 1 0 128 507) ≡ ascii "frame 128 507\n"
 unfolding decimalIn
 example-long = refl
@@ -56,6 +56,6 @@ example-short : eventText (Frame 1 0 0 3) ≡ ascii "frame 0 3\n"
 unfolding decimalIn
 example-short = refl
 
-example-refused : eventText (Refused 3 3) ≡ ascii "refused 3 3\n"
+example-refused : eventText (Refused 2 208) ≡ ascii "refused 2 208\n"
 unfolding decimalIn
 example-refused = refl

@@ -46,7 +46,7 @@ pub struct Listed {
 }
 
 // The lines of the events that the bytes of `s` from `from` on give, at the front of `out`: up to the end of `s`, or until fewer than 50
-// bytes of `out` are left, which the longest line needs.
+// bytes of `out` are left, which a line may need.
 pub fn list_some(
     start: Progress,
     store: &mut [u8; 512],

@@ -5,7 +5,7 @@ use Prim.Native.Nat.{ℕ, _+_}
 use lib.ListN.{length}
 use Rattle.crc.specs.Crc.{crcFrom, crcByte, crcBit}
 use Rattle.frame.specs.Image.{escape, escapeByte, isMark}
-use Rattle.line.specs.Receive.{stepOf, busy, unfinished, inFrame, unescaped, taken, sized}
+use Rattle.line.specs.Receive.{stepOf, busy, midFrame, inFrame, unescaped, taken, sized}
 use Rattle.line.specs.Line.{valueGives, escapedGives, insideGives, gives, run, after}
 use Rattle.aes.specs.Ctr.{blocksFor}
 use Rattle.session.specs.Session.{validAt}
@@ -24,7 +24,7 @@ abbrev _then_ : {A B : Type 0} → A → B → A × B
 a then b = (a, b)
 
 pub bench-right : All table
-unfolding escape escapeByte isMark crcFrom crcByte crcBit run gives insideGives escapedGives valueGives after stepOf busy unfinished inFrame unescaped taken sized validAt
+unfolding escape escapeByte isMark crcFrom crcByte crcBit run gives insideGives escapedGives valueGives after stepOf busy midFrame inFrame unescaped taken sized validAt
 bench-right =
     refl
     then refl

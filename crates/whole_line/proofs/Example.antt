@@ -10,7 +10,7 @@ use Rattle.wire.specs.Parts.{partOf}
 use Rattle.message.specs.Reading.{tableContent}
 use Rattle.crc.specs.Crc.{crcFrom, crcByte, crcBit}
 use Rattle.frame.specs.Image.{escape, escapeByte, isMark}
-use Rattle.line.specs.Receive.{stepOf, busy, unfinished, inFrame, unescaped, taken, stored, sized, reading, holding}
+use Rattle.line.specs.Receive.{stepOf, busy, midFrame, inFrame, unescaped, taken, stored, sized, reading, holding}
 use Rattle.line.specs.Line as line
 use Rattle.line.specs.Line.{refusal, frame, frameGives, valueGives, escapedGives, insideGives, gives, run, after}
 use Rattle.line.specs.declared.Receiver.{Receiver}
@@ -143,7 +143,7 @@ on-line = ap lineWith sealed-is
 -- 1 comes first, at the start byte, the eleventh of the frame that it cuts; then the three frames
 pub handed-out : run (before ++ lineOf g (first ∷ second ∷ third ∷ [])) caught
     ≡ refusal 1 11 ∷ frame 1 0 0 3 hello ∷ frame 1 0 0 6 reply ∷ frame 1 0 128 20 payload ∷ []
-unfolding run gives insideGives escapedGives valueGives frameGives stepOf busy unfinished inFrame unescaped taken stored sized partOf line.lineOf escape escapeByte isMark crcFrom crcByte crcBit
+unfolding run gives insideGives escapedGives valueGives frameGives stepOf busy midFrame inFrame unescaped taken stored sized partOf line.lineOf escape escapeByte isMark crcFrom crcByte crcBit
 handed-out = ap (λ (p : List ℕ). run (before ++ lineWith p) caught) sealed-is
 
 -- what openings give, in order
@@ -154,7 +154,7 @@ contents (o ∷ os) = answerContent (o .answer) (o .frame) (o .work) ∷ content
 -- of the two plain ones, by computing
 pub plain-contents : contents (openings g at 0 (g .session) (run (lineOf g (first ∷ second ∷ [])) (after before caught)))
     ≡ accepted (content 0 (3 ∷ []) []) ∷ accepted (content 11 (1 ∷ []) ((0x7E ∷ 0x5C ∷ []) ∷ [])) ∷ []
-unfolding openings opened answerOf uartOpenRules plainRules workAfter payloadAt run gives insideGives escapedGives valueGives frameGives after stepOf busy unfinished inFrame unescaped taken stored sized partOf line.lineOf escape escapeByte isMark crcFrom crcByte crcBit
+unfolding openings opened answerOf uartOpenRules plainRules workAfter payloadAt run gives insideGives escapedGives valueGives frameGives after stepOf busy midFrame inFrame unescaped taken stored sized partOf line.lineOf escape escapeByte isMark crcFrom crcByte crcBit
 plain-contents = refl
 
 -- of all three, by the claim

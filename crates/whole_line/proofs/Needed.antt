@@ -14,7 +14,7 @@ use Rattle.wire.specs.declared.Written.the-variants.{Refused}
 use Rattle.crc.specs.Crc.{crcFrom, crcByte, crcBit}
 use Rattle.frame.specs.Image.{image, escape, escapeByte, isMark}
 use Rattle.frame.specs.Writer.{badFrame}
-use Rattle.line.specs.Receive.{stepOf, busy, unfinished, inFrame, unescaped, taken, stored, sized, idleReceiver, freshReceiver}
+use Rattle.line.specs.Receive.{stepOf, busy, midFrame, inFrame, unescaped, taken, stored, sized, idleReceiver, freshReceiver}
 use Rattle.line.specs.Line as line
 use Rattle.line.specs.Line.{refusal, frame, frameGives, valueGives, escapedGives, insideGives, gives, run}
 use Rattle.access.specs.declared.Mode.{Mode}
@@ -196,7 +196,7 @@ sent m noise = record { item = plain m; noise = noise }
 
 -- a 7E in the noise: 1 at the next frame's start byte
 pub start-in-noise : run (lineOf g (sent hello (0x7E ∷ []) ∷ sent hello [] ∷ [])) freshReceiver ≡ frame 1 0 0 3 hello ∷ refusal 1 2 ∷ frame 1 0 0 3 hello ∷ []
-unfolding run gives insideGives escapedGives valueGives frameGives stepOf busy unfinished inFrame unescaped taken stored sized partOf line.lineOf escape escapeByte isMark crcFrom crcByte crcBit
+unfolding run gives insideGives escapedGives valueGives frameGives stepOf busy midFrame inFrame unescaped taken stored sized partOf line.lineOf escape escapeByte isMark crcFrom crcByte crcBit
 start-in-noise = refl
 
 -- with 7E in the noise behind a frame, or in what comes before, lists of one and of two messages make the same line
@@ -210,5 +210,5 @@ same-before = refl
 
 -- a store without room for the frame: 4
 pub no-store : run (lineOf g (sent hello [] ∷ [])) (idleReceiver []) ≡ refusal 4 11 ∷ []
-unfolding run gives insideGives escapedGives valueGives frameGives stepOf busy unfinished inFrame unescaped taken stored sized partOf line.lineOf escape escapeByte isMark crcFrom crcByte crcBit
+unfolding run gives insideGives escapedGives valueGives frameGives stepOf busy midFrame inFrame unescaped taken stored sized partOf line.lineOf escape escapeByte isMark crcFrom crcByte crcBit
 no-store = refl

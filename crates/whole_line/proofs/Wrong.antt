@@ -8,7 +8,7 @@ use lib.ListN.{length, drop}
 use Rattle.wire.specs.Parts.{partOf}
 use Rattle.crc.specs.Crc.{crcFrom, crcByte, crcBit}
 use Rattle.frame.specs.Image.{image, escape, escapeByte, isMark}
-use Rattle.line.specs.Receive.{stepOf, busy, unfinished, inFrame, unescaped, taken, stored, sized, freshReceiver}
+use Rattle.line.specs.Receive.{stepOf, busy, midFrame, inFrame, unescaped, taken, stored, sized, freshReceiver}
 use Rattle.line.specs.Line as line
 use Rattle.line.specs.Line.{Emitted, refusal, frame, frameGives, valueGives, escapedGives, insideGives, gives, run, after, SentFrame}
 use Rattle.line.specs.declared.Receiver.{Receiver}
@@ -64,7 +64,7 @@ one = sent hello ∷ []
 
 pub one-passes : (runBy firstOnly firstNext (drop 1 (lineBy image (onLine g one))) (afterBy firstNext (0x7E ∷ []) freshReceiver) ≡ line.framesOf (onLine g one))
     × (runBy firstAgain firstNext (drop 1 (lineBy image (onLine g one))) (afterBy firstNext (0x7E ∷ []) freshReceiver) ≡ line.framesOf (onLine g one))
-unfolding gives insideGives escapedGives valueGives frameGives stepOf busy unfinished inFrame unescaped taken stored sized partOf line.framesOf escape escapeByte isMark crcFrom crcByte crcBit
+unfolding gives insideGives escapedGives valueGives frameGives stepOf busy midFrame inFrame unescaped taken stored sized partOf line.framesOf escape escapeByte isMark crcFrom crcByte crcBit
 one-passes = (refl, refl)
 
 module _ (at : ℕ → Occasion) where
@@ -72,13 +72,13 @@ module _ (at : ℕ → Occasion) where
   writes-nothing w = let z : _≡_ {A = ℕ} 0 1 = ap length (w .begins) in omega arith
 
   pub one-image : ReadWith (oneImage hello) gives next g two freshReceiver at → ⊥
-  unfolding gives insideGives escapedGives valueGives frameGives stepOf busy unfinished inFrame unescaped taken stored sized partOf line.framesOf escape escapeByte isMark crcFrom crcByte crcBit
+  unfolding gives insideGives escapedGives valueGives frameGives stepOf busy midFrame inFrame unescaped taken stored sized partOf line.framesOf escape escapeByte isMark crcFrom crcByte crcBit
   one-image w = let z : _≡_ {A = ℕ} 3 6 = ap lastLength (w .hands) in omega arith
 
   pub first-only : ReadWith image firstOnly firstNext g two freshReceiver at → ⊥
-  unfolding gives insideGives escapedGives valueGives frameGives stepOf busy unfinished inFrame unescaped taken stored sized partOf line.framesOf escape escapeByte isMark crcFrom crcByte crcBit
+  unfolding gives insideGives escapedGives valueGives frameGives stepOf busy midFrame inFrame unescaped taken stored sized partOf line.framesOf escape escapeByte isMark crcFrom crcByte crcBit
   first-only w = let z : _≡_ {A = ℕ} 1 2 = ap length (w .hands) in omega arith
 
   pub first-again : ReadWith image firstAgain firstNext g two freshReceiver at → ⊥
-  unfolding gives insideGives escapedGives valueGives frameGives stepOf busy unfinished inFrame unescaped taken stored sized partOf line.framesOf escape escapeByte isMark crcFrom crcByte crcBit
+  unfolding gives insideGives escapedGives valueGives frameGives stepOf busy midFrame inFrame unescaped taken stored sized partOf line.framesOf escape escapeByte isMark crcFrom crcByte crcBit
   first-again w = let z : _≡_ {A = ℕ} 3 6 = ap lastLength (w .hands) in omega arith

@@ -19,7 +19,7 @@ pub record ReadBy
   pub writes : AllWritten g (items ts)
   -- the line's first byte is the first frame's start byte
   pub begins : whole ≡ 0x7E ∷ drop 1 whole
-  -- at that byte: 1 where a frame was unfinished, that byte counted in its place, else nothing
+  -- at that byte: 1 where a frame was unfinished, and its place counts this byte too; else nothing
   pub starts : run (0x7E ∷ []) r ≡ pick (busy (r .progress)) (line.refusal 1 (r .progress .count + 1) ∷ []) []
   -- behind that byte: exactly those frames, in order, and nothing else
   pub hands : run (drop 1 whole) (after (0x7E ∷ []) r) ≡ line.framesOf (onLine g ts)

@@ -5,14 +5,14 @@ use mathlib.Core.Path.{_≡_}
 use native.Mathlib.Omega.{arith}
 use lib.ListN.{length}
 use Rattle.line.specs.Receive.{holding, reading}
-use Rattle.line.specs.Feed.{Skips, Countable}
+use Rattle.line.specs.Feed.{Skips, CountBounded}
 use Rattle.line.proofs.Feeding.{stays, skips-none, skips-byte}
 use Rattle.line.proofs.body.Statement.{statement}
 use Rattle.line.proofs.body.Tie as tie
 
 abbrev Inv-loop : tie.InvT-loop
 Inv-loop store₀ low had size count s from got₀ i₀ store got i =
-    (2 ≤ got) × (got < size + 2) × Countable got (count + (i - from))
+    (2 ≤ got) × (got < size + 2) × CountBounded (reading false low got size (count + (i - from)))
     × Skips s from (holding (reading false low had size count) store₀) i (holding (reading false low got size (count + (i - from))) store)
 
 abbrev μ-loop : tie.MeasureT-loop
@@ -24,14 +24,14 @@ loop-holds c =
     let e : a .count + (a .from - a .from) ≡ a .count = omega arith in
     (omega arith, omega arith, omega (arith, c .before .pre .4), rw e (skips-none _ _ _))
 
-sub-t15 : tie.Need-sub-t15 Inv-loop μ-loop
-sub-t15 c = omega (arith, c .before .before .before .before .loop .inv .3 .forward)
+sub-reading : tie.Need-sub-reading Inv-loop μ-loop
+sub-reading c = omega (arith, c .before .before .before .before .loop .inv .3 .forward)
 
-add-t16 : tie.Need-add-t16 Inv-loop μ-loop
-add-t16 c = let v = c .before .before .before .before .loop .inv in omega (arith, v .2)
+add-reading : tie.Need-add-reading Inv-loop μ-loop
+add-reading c = let v = c .before .before .before .before .loop .inv in omega (arith, v .2)
 
 returns : tie.Need-returns Inv-loop μ-loop
-returns c = c .before .before .before .before .loop .inv .3
+returns c = rw (c .reading .ensures) (c .before .before .before .before .before .loop .inv .3)
 
 -- a byte that goes into the store
 stayed : (c : tie.Else1 Inv-loop μ-loop)
@@ -58,14 +58,14 @@ loop-again c =
     let u = c .before .before .before .unescape-at .ensures (w .0) in
     (omega arith, omega (arith, w .1), omega (arith, u .narrow, v .2, v .3 .forward), skips-byte _ _ _ _ _ _ _ _ _ _ _ (v .3) u (v .0) (p .1) (p .2) (w .1) (v .2))
 
-sub-t20 : tie.Need-sub-t20 Inv-loop μ-loop
-sub-t20 c = omega (arith, c .before .loop .inv .3 .forward)
+sub-reading-2 : tie.Need-sub-reading-2 Inv-loop μ-loop
+sub-reading-2 c = omega (arith, c .before .loop .inv .3 .forward)
 
-add-t21 : tie.Need-add-t21 Inv-loop μ-loop
-add-t21 c = omega (arith, c .before .loop .inv .2)
+add-reading-2 : tie.Need-add-reading-2 Inv-loop μ-loop
+add-reading-2 c = omega (arith, c .before .loop .inv .2)
 
 returns-2 : tie.Need-returns-2 Inv-loop μ-loop
-returns-2 c = c .before .loop .inv .3
+returns-2 c = rw (c .reading2 .ensures) (c .before .before .loop .inv .3)
 
 pub body-spec : {M : Type 1} → statement M
 body-spec =
@@ -76,8 +76,9 @@ body-spec =
     loop-holds
     (λ c κs. omega arith)
     (λ c κs. tt)
-    sub-t15
-    add-t16
+    sub-reading
+    add-reading
+    (λ c κs. tt)
     returns
     (λ c. omega arith)
     element-write-store
@@ -85,6 +86,7 @@ body-spec =
     add-i
     loop-less
     loop-again
-    sub-t20
-    add-t21
+    sub-reading-2
+    add-reading-2
+    (λ c κs. tt)
     returns-2)

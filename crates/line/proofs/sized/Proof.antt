@@ -7,11 +7,11 @@ use Rattle.line.proofs.sized.Tie as tie
 
 returns : tie.Need-returns
 unfolding sizedMove
-returns c = rw (sym (c .before .within .ensures) ∙ c .if1 .taken)
+returns c = simp (sym (c .before .before .within .ensures) ∙ c .before .if1 .taken, c .reading .ensures)
 
 returns-2 : tie.Need-returns-2
 unfolding sizedMove
 returns-2 c = rw (sym (c .before .before .within .ensures) ∙ c .before .if1 .left) (c .refuse .ensures)
 
 pub sized-spec : {M : Type 1} → statement M
-sized-spec = tie.close (tie.spec (λ c κs. search needs) returns (λ c κs. search needs) returns-2)
+sized-spec = tie.close (tie.spec (λ c κs. search needs) (λ c κs. search needs) returns (λ c κs. search needs) returns-2)

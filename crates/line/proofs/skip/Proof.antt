@@ -28,7 +28,7 @@ add-if4 c = let k = busy-counts _ (inside (c .before .before .before .before)) .
 body-requires : tie.Need-body-requires
 body-requires c κs =
     let k = busy-counts _ (inside (c .before .before .before .before .before .before .before)) .0 in
-    (c .before .before .before .before .if3 .left, k .least, k .most, k .more, c .before .if4 .left)
+    (c .before .before .before .before .if3 .left, k .least, k .most, k .more, omega (arith, c .before .if4 .left))
 
 returns-5 : tie.Need-returns-5
 returns-5 c =

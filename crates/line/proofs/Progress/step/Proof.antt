@@ -16,11 +16,11 @@ in-frame-requires c κs = let k = busy-counts _ (sym (c .before .busy2 .ensures)
 
 returns : tie.Need-returns
 unfolding moves.moveOf
-returns c = simp (eq-eqb _ _ (c .before .before .before .if1 .taken), sym (c .before .before .busy .ensures) ∙ c .before .if2 .taken)
+returns c = simp (eq-eqb _ _ (c .before .before .before .before .if1 .taken), sym (c .before .before .busy .ensures) ∙ c .before .if2 .taken, c .before .before .before .reading .ensures)
 
 returns-2 : tie.Need-returns-2
 unfolding moves.moveOf
-returns-2 c = simp (eq-eqb _ _ (c .before .before .if1 .taken), sym (c .before .busy .ensures) ∙ c .if2 .left)
+returns-2 c = simp (eq-eqb _ _ (c .before .before .before .if1 .taken), sym (c .before .busy .ensures) ∙ c .if2 .left, c .before .before .reading .ensures)
 
 returns-3 : tie.Need-returns-3
 unfolding moves.moveOf
@@ -35,6 +35,7 @@ pub step-spec : {M : Type 1} → statement M
 step-spec =
     tie.close
     (tie.spec
+    (λ c κs. search needs)
     (λ c κs. search needs)
     add-t8
     (λ c κs. search needs)

@@ -11,9 +11,9 @@ returns c = simp (eq-eqb _ _ (c .before .if1 .taken), c .idle .ensures)
 
 returns-2 : tie.Need-returns-2
 unfolding moves.storedMove
-returns-2 c = simp (ne-eqb _ _ (c .before .if1 .left))
+returns-2 c = simp (ne-eqb _ _ (c .before .before .if1 .left), c .reading .ensures)
 
 pub stored-spec : {M : Type 1} → statement M
 stored-spec =
     tie.close
-    (tie.spec (λ c. search needs) (λ c. search needs) (λ c κs. search needs) (λ c. search needs) returns returns-2)
+    (tie.spec (λ c. search needs) (λ c. search needs) (λ c κs. search needs) (λ c. search needs) (λ c κs. search needs) returns returns-2)

@@ -10,7 +10,7 @@ use Rattle.line.proofs.Progress.taken.Tie as tie
 
 returns : tie.Need-returns
 unfolding moves.takenMove
-returns c = simp (eq-eqb _ _ (c .if1 .taken))
+returns c = simp (eq-eqb _ _ (c .before .if1 .taken), c .reading .ensures)
 
 returns-2 : tie.Need-returns-2
 unfolding moves.takenMove
@@ -28,6 +28,7 @@ pub taken-spec : {M : Type 1} → statement M
 taken-spec =
     tie.close
     (tie.spec
+    (λ c κs. search needs)
     (λ c κs. search needs)
     (λ c κs. search needs)
     (λ c. search needs)
