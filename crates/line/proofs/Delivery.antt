@@ -16,13 +16,13 @@ use Rattle.wire.proofs.Lists.{part-in}
 use Rattle.crc.specs.Crc.{crcOf}
 use Rattle.frame.specs.Image.{wireFrame, image, body, covered, escape, escapeByte, isMark}
 use Rattle.frame.proofs.Escape.{escape-byte-length}
-use Rattle.line.specs.Receive.{stepOf, busy, midFrame, finished, reading, idle, holding, idleReceiver, stepTo, framePayload, freshReceiver}
+use Rattle.line.specs.Receive.{stepOf, busy, midFrame, finished, reading, afterStart, idle, holding, idleReceiver, stepTo, framePayload, freshReceiver}
 use Rattle.line.specs.Moves.{moveOf, takenMove, storedMove, sizedMove, keep, acted, storeAfter}
 use Rattle.line.specs.Feed.{CountBounded}
 use Rattle.line.specs.Line.{Emitted, refusal, frame, emitted, frameGives, gives, insideGives, run, after, SentFrame, lineOf, framesOf, NoStart, Sendable}
 use Rattle.line.proofs.Gives.{finished-gives, step-gives}
 use Rattle.line.proofs.Run.{run-append}
-use Rattle.line.proofs.Moves.{step-moves, move-plain, move-mark, move-3E, move-1C}
+use Rattle.line.proofs.Moves.{step-moves, taken-more, move-plain, move-mark, move-3E, move-1C}
 use Rattle.line.specs.declared.Progress.{Progress}
 use Rattle.line.specs.declared.Action.{Action}
 use Rattle.line.specs.declared.Action.the-variants.{Keep, Put, Finish, Refuse}
@@ -58,22 +58,19 @@ module _ (low got size count : ℕ) (h5 : 5 ≤ size) (h512 : size ≤ 512) (hg 
       Claim : ℕ → List ℕ → Type 0
       Claim w l = run (l ++ rest) (holding (reading false low got size count) s) ≡ movedThen rest s (takenMove (reading false low got size (count + length l)) w)
 
-      below : count + 1 < 1029
-      below = omega arith
-
       out : Bool → ℕ → List ℕ
       out t w = pick t (0x5C ∷ bitXor w 0x40 ∷ []) (w ∷ [])
 
       go : (x y : Bool) → eqb v 0x7E ≡ x → eqb v 0x5C ≡ y → Claim v (out (x || y) v)
       go true y p q =
           subst (λ (w : ℕ). Claim w (out true w)) (sym (eqb-true _ _ p))
-          (run-move _ 0x5C (0x3E ∷ rest) _ (move-mark low got size count h5 h512 hg below) ∙ run-move _ 0x3E rest _ (move-3E low got size count h5 h512 hg below))
+          (run-move _ 0x5C (0x3E ∷ rest) _ (move-mark low got size count h5 h512 hg hc) ∙ run-move _ 0x3E rest _ (move-3E low got size count h5 h512 hg hc))
       go false true p q =
           subst (λ (w : ℕ). Claim w (out true w)) (sym (eqb-true _ _ q))
-          (run-move _ 0x5C (0x1C ∷ rest) _ (move-mark low got size count h5 h512 hg below) ∙ run-move _ 0x1C rest _ (move-1C low got size count h5 h512 hg below))
-      go false false p q = run-move _ v rest _ (move-plain low got size count h5 h512 hg below v (eqb-false _ _ p) (eqb-false _ _ q))
+          (run-move _ 0x5C (0x1C ∷ rest) _ (move-mark low got size count h5 h512 hg hc) ∙ run-move _ 0x1C rest _ (move-1C low got size count h5 h512 hg hc))
+      go false false p q = run-move _ v rest _ (move-plain low got size count h5 h512 hg hc v (eqb-false _ _ p) (eqb-false _ _ q))
 
--- the bytes of a body, up to its last, go into the store from place k on
+-- the last byte of a body
 taken-last : (n g k c v : ℕ) → g ≡ k + 2 → g ≡ n + 1 → takenMove (reading false 0 g n c) v ≡ record { progress = idle; action = Finish k v n c }
 unfolding takenMove storedMove
 taken-last n g k c v e l =
@@ -81,15 +78,6 @@ taken-last n g k c v e l =
     let q : g ≡ 1 → ⊥ = omega arith in
     let d : g - 2 ≡ k = omega arith in
     simp (ne-eqb _ _ p, ne-eqb _ _ q, eq-eqb _ _ l, d)
-
-taken-more : (n g k c v : ℕ) → g ≡ k + 2 → (g ≡ n + 1 → ⊥)
-    → takenMove (reading false 0 g n c) v ≡ record { progress = reading false 0 (g + 1) n c; action = Put k v }
-unfolding takenMove storedMove
-taken-more n g k c v e l =
-    let p : g ≡ 0 → ⊥ = omega arith in
-    let q : g ≡ 1 → ⊥ = omega arith in
-    let d : g - 2 ≡ k = omega arith in
-    simp (ne-eqb _ _ p, ne-eqb _ _ q, ne-eqb _ _ l, d)
 
 -- what a frame's last byte does
 abbrev done : ℕ → ℕ → List ℕ → Step
@@ -111,7 +99,7 @@ reads n h5 h512 rest (w ∷ ws) v g k c s eg en hc =
     let e : c + length (escapeByte v ++ more) ≡ d + length more = omega (arith, length-append (escapeByte v) more) in
     rw append-assoc
     (byte 0 g n c h5 h512 (omega arith) hc s v (more ++ rest)
-    ∙ ap (movedThen (more ++ rest) s) (taken-more n g k d v eg (omega arith))
+    ∙ ap (movedThen (more ++ rest) s) (taken-more 0 n g k d v eg (omega arith))
     ∙ reads n h5 h512 rest ws w (g + 1) (suc k) d (set s k v) (omega arith) (omega arith) (omega (arith, escape-byte-length v .1))
     ∙ ap (λ (z : ℕ). emittedThen (done n z (sets (set s k v) (suc k) (w ∷ ws))) (run rest)) (sym e))
 
@@ -139,7 +127,7 @@ finished-body wrapper payload t place =
 abbrev pub atStart : Receiver → List Emitted
 atStart r = pick (busy (r .progress)) (refusal 1 (r .progress .count + 1) ∷ []) []
 
-start : (r : Receiver) (rest : List ℕ) → run (0x7E ∷ rest) r ≡ atStart r ++ run rest (holding (reading false 0 0 5 1) (r .store))
+start : (r : Receiver) (rest : List ℕ) → run (0x7E ∷ rest) r ≡ atStart r ++ run rest (holding afterStart (r .store))
 unfolding run stepOf gives insideGives
 start r rest = refl
 
@@ -152,7 +140,7 @@ abbrev headLength : ℕ → ℕ
 headLength n = 1 + length (escapeByte (n % 0x100)) + length (escapeByte (n / 0x100))
 
 head : (n : ℕ) (s bs rest : List ℕ) → 5 ≤ n → n ≤ 512
-    → run (escape (le 2 n ++ bs) ++ rest) (holding (reading false 0 0 5 1) s) ≡ run (escape bs ++ rest) (holding (reading false 0 2 n (headLength n)) s)
+    → run (escape (le 2 n ++ bs) ++ rest) (holding afterStart s) ≡ run (escape bs ++ rest) (holding (reading false 0 2 n (headLength n)) s)
 unfolding escape takenMove
 head n s bs rest h5 h512 =
     let lo : ℕ = n % 0x100 in

@@ -12,12 +12,12 @@ use borrow.Author.Tests.{ne-eqb, eqb-false, ltb-false}
 use Rattle.wire.specs.Choice.{pick}
 use Rattle.wire.proofs.Choice.{pick-all, true-false, or-fails}
 use Rattle.line.specs.Receive.{busy, reading, holding, stepTo, stepOf}
-use Rattle.line.specs.Moves.{moveOf, takenMove, storedMove, keep, storeAfter, eventOf, ActsOn}
+use Rattle.line.specs.Moves.{moveOf, takenMove, keep, storeAfter, eventOf, ActsOn}
 use Rattle.line.specs.Feed.{Fed, fed, fedTo, silent, Feeds, Skips, CountBounded, Unescapes, Passes}
 use Rattle.line.specs.Line.{Emitted, emitted, run, after}
 use Rattle.line.proofs.Gives.{step-gives}
 use Rattle.line.proofs.Run.{run-one, run-append}
-use Rattle.line.proofs.Moves.{busy-counts, stepped, move-plain, move-mark}
+use Rattle.line.proofs.Moves.{busy-counts, stepped, taken-more, move-plain, move-mark}
 use Rattle.line.specs.declared.Action.the-variants.{Put}
 use Rattle.line.specs.declared.Progress.{Progress}
 use Rattle.line.specs.declared.Move.{Move}
@@ -58,19 +58,11 @@ module _ (low got size count : ℕ) (h2 : 2 ≤ got) (h5 : 5 ≤ size) (h512 : s
   abbrev puts : ℕ → ℕ → Move
   puts w v = record { progress = next w; action = Put (got - 2) v }
 
-  counted : got < size + 2
-  counted = omega arith
-
-  below-limit : count + 1 < 1029
-  below-limit = omega arith
+  unfinished : got < size + 2
+  unfinished = omega arith
 
   taken-puts : (w v : ℕ) → takenMove (reading false low got size (count + w)) v ≡ puts w v
-  unfolding takenMove storedMove
-  taken-puts w v =
-      let x : got ≡ 0 → ⊥ = omega arith in
-      let y : got ≡ 1 → ⊥ = omega arith in
-      let z : got ≡ size + 1 → ⊥ = omega arith in
-      simp (ne-eqb _ _ x, ne-eqb _ _ y, ne-eqb _ _ z)
+  taken-puts w v = taken-more low size got (got - 2) (count + w) v (omega arith) (omega arith)
 
   -- at a place where a move is known
   moved : (s st : List ℕ) (i : ℕ) (p : Progress) (m : Move) → i < length s → m ≡ moveOf p (getD s i 0) → eventOf (m .action) (storeAfter (m .action) st) ≡ Nothing
@@ -86,7 +78,7 @@ module _ (low got size count : ℕ) (h2 : 2 ≤ got) (h5 : 5 ≤ size) (h512 : s
         forward = omega arith;
         same =
             moved s st i (reading false low got size count) (puts 1 (getD s i 0)) below
-            (sym (move-plain low got size count h5 h512 counted below-limit (getD s i 0) p q ∙ taken-puts 1 (getD s i 0))) refl;
+            (sym (move-plain low got size count h5 h512 unfinished hc (getD s i 0) p q ∙ taken-puts 1 (getD s i 0))) refl;
       }
 
   pub escaped-next : (s st : List ℕ) (i v : ℕ) → i + 1 < length s → getD s i 0 ≡ 0x5C
@@ -98,7 +90,7 @@ module _ (low got size count : ℕ) (h2 : 2 ≤ got) (h5 : 5 ≤ size) (h512 : s
         forward = omega arith;
         same =
             moved s st i (reading false low got size count) (keep (reading true low got size (count + 1))) (omega arith)
-            (sym (ap (moveOf (reading false low got size count)) e ∙ move-mark low got size count h5 h512 counted below-limit)) refl
+            (sym (ap (moveOf (reading false low got size count)) e ∙ move-mark low got size count h5 h512 unfinished hc)) refl
             ∙ moved s st (i + 1) (reading true low got size (count + 1)) (puts 2 v) below (sym (m ∙ taken-puts 2 v)) refl
             ∙ ap (λ (n : ℕ). fed n (drop n s) (holding (next 2) (set st (got - 2) v))) k;
       }
@@ -116,7 +108,7 @@ skips-none s i r = record { forward = omega arith; same = refl }
 pub skips-then : {s : List ℕ} {i j k : ℕ} {r r′ r″ : Receiver} → Skips s i r j r′ → Skips s j r′ k r″ → Skips s i r k r″
 skips-then p q = record { forward = omega arith; same = p .same ∙ q .same }
 
--- a byte of a frame more, where the count is known from the place
+-- a byte of a frame more, where the count is known from how far the loop has come
 pub skips-byte : (s : List ℕ) (from i w v low got size count : ℕ) (r : Receiver) (st : List ℕ)
     → Skips s from r i (holding (reading false low got size (count + (i - from))) st)
     → Unescapes s i w v → 2 ≤ got → 5 ≤ size → size ≤ 512 → got ≤ size → CountBounded (reading false low got size (count + (i - from)))

@@ -31,9 +31,9 @@ pick-emitted : (t : Bool) (e f : Event) (s : List ℕ) → emitted (pick t e f) 
 pick-emitted true e f s = refl
 pick-emitted false e f s = refl
 
-pub finished-gives : (size count : ℕ) (s : List ℕ) → emitted (finished size count s) s ≡ frameGives size count s
+pub finished-gives : (size place : ℕ) (s : List ℕ) → emitted (finished size place s) s ≡ frameGives size place s
 unfolding finished frameGives
-finished-gives size count s = pick-emitted (eqb (crcOf (take (size - 2) s)) (num 2 (size - 2) s)) _ _ s
+finished-gives size place s = pick-emitted (eqb (crcOf (take (size - 2) s)) (num 2 (size - 2) s)) _ _ s
 
 -- an unescaped byte
 taken-gives : (p : Progress) (s : List ℕ) (v : ℕ) → Emits (taken (counted p) s v) (valueGives p (p .count + 1) s v)

@@ -2,16 +2,17 @@
 use mathlib.Core.Path.{_≡_, refl, sym, ap, ap₂, _∙_, subst}
 use mathlib.Core.List.{List}
 use mathlib.Core.Bool.{Bool, true, false, _&&_}
-use Prim.Native.Nat.{ℕ, _+_, _*_, _≤_, _<_}
+use Prim.Native.Nat.{ℕ, _+_, _-_, _*_, _≤_, _<_}
 use native.Mathlib.Omega.{arith}
 use lib.Dec.{leb, ltb, eqb}
 use borrow.Author.Tests.{leb-true, ltb-true, eqb-true, eqb-false, ne-eqb, le-leb, lt-ltb}
 use Rattle.wire.specs.Choice.{pick}
 use Rattle.wire.proofs.Choice.{pick-all, and-holds}
-use Rattle.line.specs.Receive.{within, midFrame, busy, counted, sized, stored, taken, unescaped, inFrame, stepOf, reading, holding, stepTo}
+use Rattle.line.specs.Receive.{within, midFrame, busy, counted, sized, stored, taken, unescaped, inFrame, stepOf, reading, afterStart, holding, stepTo}
+use Rattle.line.specs.Feed.{CountBounded}
 use Rattle.line.specs.Moves.{sizedMove, storedMove, takenMove, unescapedMove, inFrameMove, moveOf, keep, WithinLimits, acted, storeAfter, eventOf, ActsOn}
 use Rattle.line.specs.declared.Action.{Action}
-use Rattle.line.specs.declared.Action.the-variants.{Keep, Refuse}
+use Rattle.line.specs.declared.Action.the-variants.{Keep, Put, Refuse}
 use Rattle.line.specs.declared.Progress.{Progress}
 use Rattle.line.specs.declared.Move.{Move}
 use Rattle.line.specs.declared.Receiver.{Receiver}
@@ -64,7 +65,7 @@ start-within p false place = tt
 move-within : (p : Progress) (b : ℕ) → MoveWithin (moveOf p b)
 unfolding moveOf inFrameMove unescapedMove MoveWithin
 move-within p b =
-    pick-all MoveWithin (eqb b 0x7E) (λ e. start-within (reading false 0 0 5 1) (busy p) (p .count + 1))
+    pick-all MoveWithin (eqb b 0x7E) (λ e. start-within afterStart (busy p) (p .count + 1))
     (λ e. pick-all MoveWithin (busy p)
     (λ t.
     let k = busy-counts p t .0 in
@@ -107,7 +108,7 @@ in-frame-acted p s b =
     (pick-acted (eqb b 0x5C) (is-acted _) (taken-acted p s b))
 
 start-acted : (s : List ℕ) (t : Bool) (place : ℕ)
-    → IsActed s (stepTo (reading false 0 0 5 1) s (pick t (Refused 1 place) Nothing)) (record { progress = reading false 0 0 5 1; action = pick t (Refuse 1 place) Keep })
+    → IsActed s (stepTo afterStart s (pick t (Refused 1 place) Nothing)) (record { progress = afterStart; action = pick t (Refuse 1 place) Keep })
 start-acted s true place = record { same = refl }
 start-acted s false place = record { same = refl }
 
@@ -132,8 +133,12 @@ stepped p b s m l e h o =
     ∙ ap (λ (x : Move). acted x s) h
     ∙ sym (step-moves (holding p s) b)
 
--- ---- moves inside a frame, from a count that leaves two below the limit
-module _ (low got size count : ℕ) (h5 : 5 ≤ size) (h512 : size ≤ 512) (hg : got < size + 2) (hc : count + 1 < 1029) where
+-- ---- moves inside a frame, from a count that is bounded
+module _ (low got size count : ℕ) (h5 : 5 ≤ size) (h512 : size ≤ 512) (hg : got < size + 2) (hc : CountBounded (reading false low got size count)) where
+  -- the byte and one more are below the limit
+  below-limit : count + 1 < 1029
+  below-limit = omega arith
+
   reading-busy : (e : Bool) (n : ℕ) → n < 1029 → busy (reading e low got size n) ≡ true
   unfolding busy midFrame
   reading-busy e n h = simp (le-leb _ _ h5, le-leb _ _ h512, lt-ltb _ _ hg, lt-ltb _ _ h)
@@ -150,8 +155,18 @@ module _ (low got size count : ℕ) (h5 : 5 ≤ size) (h512 : size ≤ 512) (hg 
   -- and what comes behind 5C
   pub move-3E : moveOf (reading true low got size (count + 1)) 0x3E ≡ takenMove (reading false low got size (count + 2)) 0x7E
   unfolding moveOf inFrameMove unescapedMove takenMove storedMove
-  move-3E = let e : count + 1 + 1 ≡ count + 2 = omega arith in simp (reading-busy true (count + 1) hc, e)
+  move-3E = let e : count + 1 + 1 ≡ count + 2 = omega arith in simp (reading-busy true (count + 1) below-limit, e)
 
   pub move-1C : moveOf (reading true low got size (count + 1)) 0x1C ≡ takenMove (reading false low got size (count + 2)) 0x5C
   unfolding moveOf inFrameMove unescapedMove takenMove storedMove
-  move-1C = let e : count + 1 + 1 ≡ count + 2 = omega arith in simp (reading-busy true (count + 1) hc, e)
+  move-1C = let e : count + 1 + 1 ≡ count + 2 = omega arith in simp (reading-busy true (count + 1) below-limit, e)
+
+-- ---- an unescaped byte behind the size that is not the last goes to place k of the store
+pub taken-more : (low n g k c v : ℕ) → g ≡ k + 2 → (g ≡ n + 1 → ⊥)
+    → takenMove (reading false low g n c) v ≡ record { progress = reading false low (g + 1) n c; action = Put k v }
+unfolding takenMove storedMove
+taken-more low n g k c v e l =
+    let p : g ≡ 0 → ⊥ = omega arith in
+    let q : g ≡ 1 → ⊥ = omega arith in
+    let d : g - 2 ≡ k = omega arith in
+    simp (ne-eqb _ _ p, ne-eqb _ _ q, ne-eqb _ _ l, d)

@@ -4,17 +4,16 @@ use mathlib.Core.List.{List, [], _∷_, _++_, append-assoc, append-nil}
 use mathlib.Core.Bool.{Bool, true, false}
 use Prim.Native.Nat.{ℕ, _+_, _*_, _≤_, _<_}
 use native.Mathlib.Omega.{arith}
-use lib.ListN.{length, drop, length-append}
+use lib.ListN.{length, length-append}
 use lib.Dec.{eqb, ltb}
-use borrow.Author.Tests.{eqb-true, eqb-false, eq-eqb, lt-ltb}
+use borrow.Author.Tests.{eqb-true, eqb-false, lt-ltb}
 use Rattle.wire.specs.Choice.{pick}
 use Rattle.wire.proofs.Choice.{pick-all, and-holds, true-false}
-use Rattle.frame.specs.Image.{wireFrame}
 use Rattle.frame.proofs.Escape.{frame-length}
-use Rattle.line.specs.Receive.{within, midFrame, busy, counted, reading, idle, holding, freshReceiver, stepOf}
-use Rattle.line.specs.Moves.{moveOf, inFrameMove, unescapedMove, takenMove, sizedMove, storedMove, acted}
+use Rattle.line.specs.Receive.{within, midFrame, busy, counted, afterStart, idle, holding, freshReceiver, stepOf}
+use Rattle.line.specs.Moves.{moveOf, inFrameMove, unescapedMove, takenMove, sizedMove, storedMove}
 use Rattle.line.specs.Feed.{CountBounded}
-use Rattle.line.specs.Line.{Emitted, gives, run, after, EachRefusal, NoStart}
+use Rattle.line.specs.Line.{gives, after, EachRefusal, NoStart}
 use Rattle.line.specs.Places.{FromStart, Places}
 use Rattle.line.proofs.Moves.{mid-frame-counts, step-moves}
 use Rattle.line.proofs.Run.{Given, gives-given, each, run-limits}
@@ -36,11 +35,11 @@ record Follows (bs : List ℕ) (p : Progress) : Type 0 where
 abbrev Led : List ℕ → Progress → Type 0
 Led bs p = midFrame p ≡ true → Follows bs p
 
--- then the count is below its limit
 escape-one : (t : Bool) → pick t 1 0 ≤ 1
 escape-one true = omega arith
 escape-one false = omega arith
 
+-- a count so bounded is below its limit
 bounded-busy : (p : Progress) → midFrame p ≡ true → CountBounded p → busy p ≡ true
 unfolding busy
 bounded-busy p t h =
@@ -95,7 +94,7 @@ follows-more bs b p q f n e h =
     }
 
 -- the record just after a start byte
-follows-start : (bs : List ℕ) (b : ℕ) → b ≡ 0x7E → Follows (bs ++ (b ∷ [])) (reading false 0 0 5 1)
+follows-start : (bs : List ℕ) (b : ℕ) → b ≡ 0x7E → Follows (bs ++ (b ∷ [])) afterStart
 follows-start bs b e =
     record { bounded = omega arith; before = bs; behind = []; begun = ap (λ (x : ℕ). bs ++ (x ∷ [])) e; clear = tt; counts = refl }
 
@@ -127,7 +126,7 @@ fresh-led bs = after-led [] bs freshReceiver (λ t. true-false (sym t))
 
 start-led : (r : Receiver) (bs : List ℕ) → Led (0x7E ∷ bs) (after (0x7E ∷ bs) r .progress)
 unfolding after stepOf
-start-led r bs = after-led (0x7E ∷ []) bs (holding (reading false 0 0 5 1) (r .store)) (λ t. follows-start [] 0x7E refl)
+start-led r bs = after-led (0x7E ∷ []) bs (holding afterStart (r .store)) (λ t. follows-start [] 0x7E refl)
 
 -- ---- the laws
 from-start : (bs : List ℕ) (b : ℕ) (r : Receiver) → Led bs (r .progress) → EachRefusal (λ n place. FromStart bs b place) (gives r b)
@@ -157,5 +156,5 @@ places =
       started = λ r bs b. from-start (0x7E ∷ bs) b (after (0x7E ∷ bs) r) (start-led r bs);
       middle = λ r bs. not-idle (after (0x7E ∷ bs) r .progress) _ _ refl refl (λ t. start-led r bs t .bounded);
       bounds = frame-length;
-      whole = frame-finished;
+      finishes = frame-finished;
     }

@@ -84,7 +84,7 @@ pub gives-given : (r : Receiver) (b : ℕ) → EachRefusal (Given (r .progress))
 unfolding gives
 gives-given r b = pick-all (EachRefusal (Given (r .progress))) (busy (r .progress)) (λ t. inside-given (r .progress) (r .store) t b) (λ t. tt)
 
--- what one of each refusal gives of it
+-- what follows for each refusal
 pub each : (P Q : ℕ → ℕ → Type 0) → ((n place : ℕ) → P n place → Q n place) → (es : List Emitted) → EachRefusal P es → EachRefusal Q es
 each P Q f [] h = tt
 each P Q f (refusal n place ∷ es) h = (f n place (h .0), each P Q f es (h .1))

@@ -46,7 +46,7 @@ pub record Skips (s : List ℕ) (from : ℕ) (r : Receiver) (to : ℕ) (r′ : R
   pub forward : from ≤ to
   pub same : fed from (drop from s) r ≡ fed to (drop to s) r′
 
--- the count is at most the start byte, two bytes for each unescaped one, and an escape byte: from a start byte on it always is
+-- the count is at most the start byte, two bytes for each unescaped one, and one more just after 5C: from a start byte on it always is
 abbrev pub CountBounded : Progress → Type 0
 CountBounded p = p .count ≤ 1 + 2 * p .got + pick (p .escaped) 1 0
 
@@ -59,6 +59,6 @@ pub record Unescapes (s : List ℕ) (i w v : ℕ) : Type 0 where
       (low got size count : ℕ) (st : List ℕ) → 2 ≤ got → 5 ≤ size → size ≤ 512 → got ≤ size → CountBounded (reading false low got size count)
       → Skips s i (holding (reading false low got size count) st) (i + w) (holding (reading false low (got + 1) size (count + w)) (set st (got - 2) v))
 
--- between two places of s nothing happens to a receiver that is inside no frame
+-- between two places of s nothing happens to a receiver that is taken as idle
 abbrev pub Passes : List ℕ → ℕ → ℕ → Type 0
 Passes s from to = (p : Progress) (st : List ℕ) → busy p ≡ false → Skips s from (holding p st) to (holding p st)

@@ -7,7 +7,7 @@ use mathlib.Core.Bool.{true, false}
 use lib.ListN.{set}
 use lib.Dec.{eqb}
 use Rattle.wire.specs.Choice.{pick}
-use Rattle.line.specs.Receive.{idle, reading, within, busy, counted, stepTo, finished}
+use Rattle.line.specs.Receive.{idle, reading, afterStart, within, busy, counted, stepTo, finished}
 use Rattle.line.specs.declared.Progress.{Progress}
 use Rattle.line.specs.declared.Action.{Action}
 use Rattle.line.specs.declared.Action.the-variants.{Keep, Put, Finish, Refuse}
@@ -51,7 +51,7 @@ inFrameMove p b =
 unfoldable pub moveOf : Progress → ℕ → Move
 moveOf p b =
     pick (eqb b 0x7E)
-    (record { progress = reading false 0 0 5 1; action = pick (busy p) (Refuse 1 (p .count + 1)) Keep })
+    (record { progress = afterStart; action = pick (busy p) (Refuse 1 (p .count + 1)) Keep })
     (pick (busy p) (inFrameMove (counted p) b) (keep p))
 
 -- ---- the store

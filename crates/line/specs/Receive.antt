@@ -1,4 +1,4 @@
--- What one byte does to the receiver: document 01, 'Line'.
+-- What one byte does to the receiver: document 01, 'Line', and document 02 §4.
 use Prim.Native.Nat.{ℕ, _+_, _-_, _*_}
 use mathlib.Core.List.{List, []}
 use mathlib.Core.Bool.{Bool, true, false, _&&_}
@@ -23,6 +23,10 @@ idle = record { inside = false; escaped = false; low = 0; got = 0; size = 5; cou
 abbrev pub reading : Bool → ℕ → ℕ → ℕ → ℕ → Progress
 reading escaped low got size count = record { inside = true; escaped = escaped; low = low; got = got; size = size; count = count }
 
+-- just after a start byte
+abbrev pub afterStart : Progress
+afterStart = reading false 0 0 5 1
+
 abbrev pub holding : Progress → List ℕ → Receiver
 holding p s = record { progress = p; store = s }
 
@@ -37,11 +41,12 @@ freshReceiver = idleReceiver (replicate 512 0)
 abbrev pub within : ℕ → Bool
 within size = leb 5 size && leb size 512
 
--- in the middle of a frame: inside it, its size within the limits, and fewer unescaped bytes have come than it and the size's own two
+-- in the middle of a frame: inside it, with a size within the limits, and fewer unescaped bytes have come than the size and its own two
 unfoldable pub midFrame : Progress → Bool
 midFrame p = p .inside && (within (p .size) && ltb (p .got) (p .size + 2))
 
--- inside an unfinished frame: a record whose counts lie outside these limits is taken as idle, and so is one whose count stands at 1029 or more
+-- taken as inside an unfinished frame. Any other record is taken as idle: one whose counts lie outside these limits, and one inside a frame
+-- whose count already stands at 1029 or more
 unfoldable pub busy : Progress → Bool
 busy p = midFrame p && ltb (p .count) 1029
 
@@ -95,11 +100,12 @@ inFrame p s b =
     (unescaped p s b)
     (pick (eqb b 0x5C) (stepTo (reading true (p .low) (p .got) (p .size) (p .count)) s Nothing) (taken p s b))
 
--- 7E in any condition begins a new frame, with 1 inside an unfinished one, where it counts too; idle, any other byte is dropped
+-- 7E in any condition begins a new frame, inside an unfinished one with refusal 1, in whose place it counts too; idle, any other byte is
+-- dropped
 unfoldable pub stepOf : Receiver → ℕ → Step
 stepOf r b =
     pick (eqb b 0x7E)
-    (stepTo (reading false 0 0 5 1) (r .store) (pick (busy (r .progress)) (Refused 1 (r .progress .count + 1)) Nothing))
+    (stepTo afterStart (r .store) (pick (busy (r .progress)) (Refused 1 (r .progress .count + 1)) Nothing))
     (pick (busy (r .progress))
     (inFrame (counted (r .progress)) (r .store) b)
     (stepTo (r .progress) (r .store) Nothing))

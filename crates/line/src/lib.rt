@@ -1,4 +1,4 @@
-// The receiver of a serial line. Its progress, flags and counts, is passed by value through small functions; its store is written in one place.
+// The receiver of a serial line. Its progress, flags and counts, is passed by value through small functions; its store is lent.
 ghost use mathlib.Core.Path.{_≡_};
 ghost use mathlib.Core.Bool.{false, _||_};
 ghost use Prim.Native.Nat.{_+_, _<_, _≤_};
@@ -54,7 +54,8 @@ pub struct Step {
     pub event: Event,
 }
 
-// What is to be done with the store: nothing, a byte written, a frame's last byte written, or nothing and a refusal.
+// What is to be done with the store: nothing, a byte written, a frame's last byte written, or nothing and a refusal. `at` is a place of the
+// store, `place` that of a refusal.
 enum Action {
     Keep,
     Put {

@@ -1,5 +1,5 @@
-// Captures through the receiver: what `receive` hands out byte by byte, whether the bytes in one read or cut into two give the same, and the record after
-// them; and what the frame writer leaves in its room.
+// Captures through the receiver: what `receive` hands out byte by byte, and the record after it; whether the bytes in one read or cut into two give
+// the same; and what the frame writer leaves in its room.
 //
 // A line of standard input has fields with | between:
 //   LABEL|c|BYTES                  a capture, to a fresh record
@@ -132,23 +132,24 @@ fn flag(b: bool) -> u64
     if b { 1 } else { 0 }
 }
 
-// 1 where the bytes in two reads give another text, else 0.
+// 1 where the bytes in two reads give other events or leave another record, else 0.
 fn differs(receiver: Receiver, s: &[u8], cut: usize, whole: &[u8]) -> u64
     requires { ⌜ cut ≤ length (now s) ⌝ }
     ensures { λ r. ⌜ r ≤ 1 ⌝ }
 {
-    let mut out = [0u8; 4096];
+    let mut out = [0u8; 8192];
     let rest = Part {
         start: cut,
         len: s.len() - cut,
     };
     let first = one_read(Run { receiver, at: 0 }, front(s, cut), &mut out);
     let second = one_read(first, wire::part_of(s, rest), &mut out);
-    let n = second.at;
+    let after = second.receiver;
+    let n = record(&mut out, second.at, after);
     flag(!check::same(front(&out, n), whole))
 }
 
-// How many cuts give another text than the bytes one by one; one read is a cut before the first.
+// How many cuts give another text than the bytes one by one: events, and the record after them; one read is a cut before the first.
 fn changed(receiver: Receiver, s: &[u8], whole: &[u8]) -> u64 {
     let mut n: u64 = 0;
     let mut cut: usize = 0;
@@ -179,13 +180,14 @@ fn record(out: &mut [u8], at: usize, r: Receiver) -> usize {
 
 // A capture, to a record: the events, the cuts, and the record after it.
 fn capture(out: &mut [u8], at: usize, start: Receiver, s: &[u8]) -> usize {
-    let mut events = [0u8; 4096];
-    let whole = one_by_one(start, s, &mut events);
-    let n = whole.at;
-    let behind = text::put(out, at, front(&events, n));
-    let cuts = changed(start, s, front(&events, n));
+    let mut whole = [0u8; 8192];
+    let run = one_by_one(start, s, &mut whole);
+    let events = run.at;
+    let receiver = run.receiver;
+    let end = record(&mut whole, events, receiver);
+    let behind = text::put(out, at, front(&whole, events));
+    let cuts = changed(start, s, front(&whole, end));
     let after = text::named(out, behind, b"; changed by cuts ", cuts);
-    let receiver = whole.receiver;
     record(out, after, receiver)
 }
 

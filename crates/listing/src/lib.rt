@@ -14,7 +14,7 @@ use line::Event;
 use line::Progress;
 use line::Receiver;
 
-// `frame TYPE LENGTH` or `refused N PLACE`, nothing where there is no event: from a place on, and the place behind it.
+// `frame TYPE LENGTH` or `refused N PLACE`, nothing where there is no event: put into `out` from `at` on; the answer is where it ends.
 pub fn event_line(out: &mut [u8], at: usize, e: Event) -> usize
     ensures { λ r. ⌜ Puts (eventText e) at (now (out .entry)) r (now (out .exit)) ⌝ }
 {
@@ -46,7 +46,7 @@ pub struct Listed {
 }
 
 // The lines of the events that the bytes of `s` from `from` on give, at the front of `out`: up to the end of `s`, or until fewer than 50
-// bytes of `out` are left, which a line may need.
+// bytes of `out` are left, enough for any line.
 pub fn list_some(
     start: Progress,
     store: &mut [u8; 512],

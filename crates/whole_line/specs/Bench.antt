@@ -7,7 +7,7 @@ use lib.ListN.{length, replicate}
 use Rattle.wire.specs.Numbers.{le}
 use Rattle.wire.specs.Content.{Judged, accepted, refused, Content, content}
 use Rattle.frame.specs.Image.{escape, image}
-use Rattle.line.specs.Receive.{freshReceiver, idle, reading}
+use Rattle.line.specs.Receive.{freshReceiver, idle, reading, afterStart}
 use Rattle.line.specs.Line.{Emitted, refusal, run, after}
 use Rattle.line.specs.declared.Progress.{Progress}
 use Rattle.access.specs.declared.Mode.{Mode}
@@ -55,10 +55,7 @@ abbrev pub All : List Row → Type 0
 All [] = Unit {0}
 All (r ∷ rs) = Right r × All rs
 
--- just after a start byte; just after a size, none of its bytes escaped
-abbrev pub afterStart : Progress
-afterStart = reading false 0 0 5 1
-
+-- just after a size, none of its bytes escaped
 abbrev pub afterSize : ℕ → Progress
 afterSize n = reading false 0 2 n 3
 

@@ -34,7 +34,7 @@ returns-4 c = λ w.
       narrow = omega arith;
       puts = λ low got size count st h2 h5 h512 hg hc.
           escaped-next low got size count h2 h5 h512 hg hc (a .s .now) st (a .i) 0x7E (omega arith) (c .before .before .before .if2 .left)
-          (ap (moveOf (reading true low got size (count + 1))) (c .if4 .taken) ∙ move-3E low got size count h5 h512 (omega arith) (omega arith));
+          (ap (moveOf (reading true low got size (count + 1))) (c .if4 .taken) ∙ move-3E low got size count h5 h512 (omega arith) hc);
     }
 
 returns-5 : tie.Need-returns-5
@@ -45,7 +45,7 @@ returns-5 c = λ w.
       narrow = omega arith;
       puts = λ low got size count st h2 h5 h512 hg hc.
           escaped-next low got size count h2 h5 h512 hg hc (a .s .now) st (a .i) 0x5C (omega arith) (c .before .before .before .before .if2 .left)
-          (ap (moveOf (reading true low got size (count + 1))) (c .if5 .taken) ∙ move-1C low got size count h5 h512 (omega arith) (omega arith));
+          (ap (moveOf (reading true low got size (count + 1))) (c .if5 .taken) ∙ move-1C low got size count h5 h512 (omega arith) hc);
     }
 
 returns-6 : tie.Need-returns-6
