@@ -1,6 +1,7 @@
 -- What stays below 256: products, substituted bytes, words, round keys. Assumes nothing.
 use mathlib.Core.List.{List, [], _∷_, _++_}
 use Prim.Native.Nat.{ℕ, zero, suc, _+_, _*_, _/_, _%_, _<_}
+use native.Mathlib.Nat.{mod-lt}
 use native.Mathlib.Omega.{arith}
 use lib.Bits.{xor-lt}
 use lib.Dec.{T, lit<, ltb, ltb→lt}
@@ -11,20 +12,20 @@ use Rattle.aes.specs.Box.{powers, inverse, turned, affine, subByte, invA
 use Rattle.aes.specs.Cipher.{four, rows, cell, ofState, mixed, word, xorWord, rotWord, subWord, chained, rcon, nextKey, roundKey, from, keyExpansion}
 use Rattle.aes.specs.InvCipher.{invMixed}
 use Rattle.aes.specs.Inverse.{Bytes}
+use Rattle.aes.specs.Packed.{timesX}
+use Rattle.aes.proofs.Turns.{digit-fits}
 
 -- ---- bytes
 pub xor-byte : {a b : ℕ} → a < 256 → b < 256 → a ⊕ b < 256
 xor-byte {a} {b} ha hb = xor-lt 8 a b ha hb
 
-double-byte : (b : ℕ) → b * 2 % 256 < 256
-double-byte b = omega arith
-
-reduced-byte : (b : ℕ) → b / 128 % 2 * 0x1b < 256
-reduced-byte b = omega arith
+pub times-x-byte : (r b : ℕ) → r < 256 → timesX r b < 256
+unfolding timesX
+times-x-byte r b h = xor-byte (mod-lt (b * 2) (lit< tt)) (digit-fits (b / 128) r h)
 
 pub xtime-byte : (b : ℕ) → xtime b < 256
-unfolding xtime
-xtime-byte b = xor-byte (double-byte b) (reduced-byte b)
+unfolding xtime timesX
+xtime-byte b = times-x-byte 0x1b b (lit< tt)
 
 digit-byte : (d a : ℕ) → a < 256 → digitTimes d a < 256
 digit-byte zero a h = lit< tt
@@ -44,7 +45,11 @@ unfolding powers
 powers-byte zero a = lit< tt
 powers-byte (suc n) a = mul-byte (a • a) (powers n (a • a)) (powers-byte n (a • a))
 
-affine-byte : (b : ℕ) → b < 256 → affine b < 256
+pub inverse-byte : (b : ℕ) → inverse b < 256
+unfolding inverse
+inverse-byte b = powers-byte 7 b
+
+pub affine-byte : (b : ℕ) → b < 256 → affine b < 256
 unfolding affine turned
 affine-byte b h =
     xor-byte (xor-byte (xor-byte (xor-byte (xor-byte h (turn-4 b h)) (turn-3 b h)) (turn-2 b h)) (turn-1 b h)) (lit< tt)
@@ -63,12 +68,12 @@ affine-byte b h =
 
 -- whatever is substituted, and back
 pub sub-byte : (b : ℕ) → subByte b < 256
-unfolding subByte inverse
-sub-byte b = affine-byte (powers 7 b) (powers-byte 7 b)
+unfolding subByte
+sub-byte b = affine-byte (inverse b) (inverse-byte b)
 
 pub inv-sub-byte : (b : ℕ) → invSubByte b < 256
-unfolding invSubByte inverse
-inv-sub-byte b = powers-byte 7 (invAffine b)
+unfolding invSubByte
+inv-sub-byte b = inverse-byte (invAffine b)
 
 -- a column's byte, mixed and back
 pub mixed-byte : (a b c d : ℕ) → a < 256 → b < 256 → c < 256 → d < 256 → mixed a b c d < 256
@@ -89,7 +94,7 @@ four-all P f d p h (suc (suc zero)) = h 2
 four-all P f d p h (suc (suc (suc zero))) = h 3
 four-all P f d p h (suc (suc (suc (suc i)))) = p
 
-four-bytes : (f : ℕ → ℕ) → ((i : ℕ) → f i < 256) → Bytes (four f)
+pub four-bytes : (f : ℕ → ℕ) → ((i : ℕ) → f i < 256) → Bytes (four f)
 four-bytes f h = four-all (λ (b : ℕ). b < 256) f 0 (lit< tt) h
 
 pub rows-bytes : (f : ℕ → ℕ → ℕ) → ((r c : ℕ) → f r c < 256) → (r c : ℕ) → cell (rows f) r c < 256

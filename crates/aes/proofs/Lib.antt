@@ -7,6 +7,7 @@ pub mod Cells
 pub mod Columns
 pub mod Filled
 pub mod Turns
+pub mod Elements
 pub mod Cipher
 pub mod Undoing
 pub mod Inverse

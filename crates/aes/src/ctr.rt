@@ -1,10 +1,8 @@
 // Counter mode, document 01, 'Cipher and session': the same function seals and opens.
 //
-// It is a module of this crate because the round keys and the table are made once a call, and what takes the
-// table is private to the crate.
-use super::box_table;
-use super::encrypt_with;
-use super::expand_with;
+// The round keys are made once a call.
+use super::encrypt_block;
+use super::expand_key;
 use wire::Written;
 ghost use mathlib.Core.Path.{_≡_};
 ghost use mathlib.Core.List.{_∷_, []};
@@ -85,12 +83,11 @@ pub fn apply_ctr(
     if out.len() < src.len() {
         return Written::Refused(25);
     }
-    let table = box_table();
-    let keys = expand_with(&table, key);
+    let keys = expand_key(key);
     let blocks = blocks_for(src.len());
     let mut i: usize = 0;
     while i < blocks {
-        let block = encrypt_with(&table, &keys, counter_block(packet_nonce, session_nonce, i));
+        let block = encrypt_block(&keys, counter_block(packet_nonce, session_nonce, i));
         xor_block(block, src, 16 * i, out);
         i += 1;
     }

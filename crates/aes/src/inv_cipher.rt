@@ -1,12 +1,17 @@
-// The inverse cipher: FIPS 197, section 5.3. Its box is worked out and not a table: a block of session data is all that is deciphered so.
-use super::field::inverse;
+// The inverse cipher: FIPS 197, section 5.3.
+use super::packed::inverses;
+use super::packed::pack;
+use super::packed::times_x;
+use super::packed::unpack;
 use super::steps::add_round_key;
 use super::steps::mix_columns;
 use super::steps::of_state;
 use super::steps::to_state;
 ghost use mathlib.Core.Path.{_≡_};
+ghost use mathlib.Core.List.{_∷_, []};
 ghost use lib.ListN.{getD};
-ghost use Rattle.aes.specs.Box.{invSubByte};
+ghost use Rattle.aes.specs.Box.{invAffine, invSubByte};
+ghost use Rattle.aes.specs.Packed.{each};
 ghost use Rattle.aes.specs.Cipher.{four};
 ghost use Rattle.aes.specs.InvCipher.{invShiftRows, invSubBytes, invMixColumns, invCipherUnder};
 
@@ -25,33 +30,46 @@ pub fn inv_shift_rows(s: [[u8; 4]; 4]) -> [[u8; 4]; 4]
     ]
 }
 
-// The affine step undone, and then the inverse.
-fn inv_sub_byte(b: u8) -> u8
-    ensures { λ r. ⌜ r ≡ invSubByte b ⌝ }
+// The affine step undone in each of eight bytes.
+fn inv_affines(w: u64) -> u64
+    ensures { λ r. ⌜ r ≡ each invAffine w ⌝ }
 {
-    inverse((b % 4 * 64 + b / 4) ^ (b % 32 * 8 + b / 32) ^ (b % 128 * 2 + b / 128) ^ 0x05)
+    let w1 = times_x(w, 1);
+    let w2 = times_x(w1, 1);
+    let w3 = times_x(w2, 1);
+    let w4 = times_x(w3, 1);
+    let w5 = times_x(w4, 1);
+    let w6 = times_x(w5, 1);
+    w6 ^ w3 ^ w1 ^ 0x0505_0505_0505_0505
 }
 
-fn inv_sub_row(a: [u8; 4]) -> [u8; 4]
-    ensures { λ r. ⌜ r ≡ four (λ c. invSubByte (getD a c 0)) ⌝ }
+// The substitution of each of eight bytes back: the affine step undone, and then the inverse in the field.
+fn inv_subs(w: u64) -> u64
+    ensures { λ r. ⌜ r ≡ each invSubByte w ⌝ }
 {
-    [
-        inv_sub_byte(a[0]),
-        inv_sub_byte(a[1]),
-        inv_sub_byte(a[2]),
-        inv_sub_byte(a[3]),
-    ]
+    inverses(inv_affines(w))
+}
+
+// The substitution of a byte back, section 5.3.2.
+pub fn inv_sub_byte(b: u8) -> u8
+    ensures { λ r. ⌜ r ≡ invSubByte b ⌝ }
+{
+    (inv_subs(b as u64) % 256) as u8
+}
+
+// The substitution of two rows of a state back.
+fn inv_sub_rows(a: [u8; 4], b: [u8; 4]) -> [[u8; 4]; 2]
+    ensures { λ r. ⌜ r ≡ four (λ c. invSubByte (getD a c 0)) ∷ four (λ c. invSubByte (getD b c 0)) ∷ [] ⌝ }
+{
+    unpack(inv_subs(pack(a, b)))
 }
 
 pub fn inv_sub_bytes(s: [[u8; 4]; 4]) -> [[u8; 4]; 4]
     ensures { λ r. ⌜ r ≡ invSubBytes s ⌝ }
 {
-    [
-        inv_sub_row(s[0]),
-        inv_sub_row(s[1]),
-        inv_sub_row(s[2]),
-        inv_sub_row(s[3]),
-    ]
+    let x = inv_sub_rows(s[0], s[1]);
+    let y = inv_sub_rows(s[2], s[3]);
+    [x[0], x[1], y[0], y[1]]
 }
 
 // MixColumns four times changes nothing, so three times undo it once.

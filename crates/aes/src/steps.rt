@@ -1,7 +1,11 @@
 // The state, and the steps of a round that take no box: FIPS 197, sections 3.4 and 5.1.2 to 5.1.4.
-use super::field::xtime;
+use super::packed::pack;
+use super::packed::unpack;
+use super::packed::xtimes;
 ghost use mathlib.Core.Path.{_≡_};
+ghost use mathlib.Core.List.{_∷_, []};
 ghost use lib.ListN.{getD};
+ghost use Rattle.aes.specs.Packed.{packed, element};
 ghost use Rattle.aes.specs.Cipher.{four, toState, ofState, shiftRows, mixed, mixColumns, addRoundKey};
 
 // A block as four rows, filled column by column.
@@ -59,23 +63,19 @@ pub fn shift_rows(s: [[u8; 4]; 4]) -> [[u8; 4]; 4]
     ]
 }
 
-// One byte of a mixed column, from the column's bytes from there on.
-fn mix(a: u8, b: u8, c: u8, d: u8) -> u8
-    ensures { λ r. ⌜ r ≡ mixed a b c d ⌝ }
+// Each of eight bytes of mixed columns, from the columns' bytes from there on.
+fn mix(a: u64, b: u64, c: u64, d: u64) -> u64
+    ensures { λ r. ⌜ r ≡ packed 8 (λ i. mixed (element a i) (element b i) (element c i) (element d i)) ⌝ }
 {
-    xtime(a) ^ (b ^ xtime(b)) ^ c ^ d
+    xtimes(a) ^ (b ^ xtimes(b)) ^ c ^ d
 }
 
-// One row of the mixed columns, from the rows from there on.
-fn mix_row(a: [u8; 4], b: [u8; 4], c: [u8; 4], d: [u8; 4]) -> [u8; 4]
-    ensures { λ r. ⌜ r ≡ four (λ i. mixed (getD a i 0) (getD b i 0) (getD c i 0) (getD d i 0)) ⌝ }
+// Two rows of the mixed columns, from the rows from there on.
+fn mix_rows(a: [u8; 4], b: [u8; 4], c: [u8; 4], d: [u8; 4]) -> [[u8; 4]; 2]
+    ensures { λ r. ⌜ r ≡ four (λ i. mixed (getD a i 0) (getD b i 0) (getD c i 0) (getD d i 0))
+        ∷ four (λ i. mixed (getD b i 0) (getD c i 0) (getD d i 0) (getD a i 0)) ∷ [] ⌝ }
 {
-    [
-        mix(a[0], b[0], c[0], d[0]),
-        mix(a[1], b[1], c[1], d[1]),
-        mix(a[2], b[2], c[2], d[2]),
-        mix(a[3], b[3], c[3], d[3]),
-    ]
+    unpack(mix(pack(a, b), pack(b, c), pack(c, d), pack(d, a)))
 }
 
 pub fn mix_columns(s: [[u8; 4]; 4]) -> [[u8; 4]; 4]
@@ -85,12 +85,9 @@ pub fn mix_columns(s: [[u8; 4]; 4]) -> [[u8; 4]; 4]
     let b = s[1];
     let c = s[2];
     let d = s[3];
-    [
-        mix_row(a, b, c, d),
-        mix_row(b, c, d, a),
-        mix_row(c, d, a, b),
-        mix_row(d, a, b, c),
-    ]
+    let x = mix_rows(a, b, c, d);
+    let y = mix_rows(c, d, a, b);
+    [x[0], x[1], y[0], y[1]]
 }
 
 pub fn add_round_key(s: [[u8; 4]; 4], k: [u8; 16]) -> [[u8; 4]; 4]

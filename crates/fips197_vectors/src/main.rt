@@ -1,6 +1,6 @@
 // Runs the AES-128 vectors of FIPS 197 through the crate `aes`: prints how many values passed, and each that differs. A group of standard
 // input is its name, what its values are (which says what is run), the key, the input, and on each line a value behind its name; a group of
-// round keys has no input.
+// round keys has no input, a group of a box's rows no key either.
 use libc::STDIN_FILENO;
 use libc::STDOUT_FILENO;
 use text::reading;
@@ -117,6 +117,33 @@ fn inv_values(keys: &[[u8; 16]; 11], input: [u8; 16]) -> [[u8; 16]; 51] {
     all
 }
 
+// Row r of the box, or of the inverse box.
+fn box_row(r: usize, back: bool) -> [u8; 16] {
+    let mut row = [0u8; 16];
+    let mut c: usize = 0;
+    while c < 16 {
+        let b = (r % 16 * 16 + c) as u8;
+        row[c] = if back {
+            aes::inv_sub_byte(b)
+        } else {
+            aes::sub_byte(b)
+        };
+        c += 1;
+    }
+    row
+}
+
+fn box_rows(back: bool) -> [[u8; 16]; 16] {
+    let mut rows = [[0u8; 16]; 16];
+    let mut r: usize = 0;
+    while r < 16 {
+        let row = box_row(r, back);
+        rows[r] = row;
+        r += 1;
+    }
+    rows
+}
+
 // `NAME: N of M values passed`.
 fn summary(group: &[u8], got: &[[u8; 16]], out: &mut [u8]) -> usize
     requires { ⌜ length (now got) < 1000 ⌝ }
@@ -129,7 +156,8 @@ fn summary(group: &[u8], got: &[[u8; 16]], out: &mut [u8]) -> usize
     text::put(out, d, b"\n")
 }
 
-fn run(group: &[u8], out: &mut [u8]) -> usize {
+// A group under a key.
+fn run_keyed(group: &[u8], out: &mut [u8]) -> usize {
     let keys = aes::expand_key(block(line(group, 3)));
     let input = block(line(group, 4));
     let what = line(group, 2);
@@ -146,6 +174,20 @@ fn run(group: &[u8], out: &mut [u8]) -> usize {
         return summary(group, &output, out);
     }
     summary(group, &keys, out)
+}
+
+// A group, and its summary in the room.
+fn run(group: &[u8], out: &mut [u8]) -> usize {
+    let what = line(group, 2);
+    if check::same(what, b" rows of the box passed") {
+        let rows = box_rows(false);
+        return summary(group, &rows, out);
+    }
+    if check::same(what, b" rows of the inverse box passed") {
+        let rows = box_rows(true);
+        return summary(group, &rows, out);
+    }
+    run_keyed(group, out)
 }
 
 fn main() {

@@ -14,7 +14,7 @@ unfolding nextKey
 returns c =
     let a = c .before .before .args in
     c .chain .ensures
-    ∙ ap (λ (w : List ℕ). chained (a .t2) (bitXor (a .c) (getD w 0 0) ∷ getD w 1 0 ∷ getD w 2 0 ∷ getD w 3 0 ∷ [])) (c .before .sub-word .ensures)
+    ∙ ap (λ (w : List ℕ). chained (a .t1) (bitXor (a .c) (getD w 0 0) ∷ getD w 1 0 ∷ getD w 2 0 ∷ getD w 3 0 ∷ [])) (c .before .sub-word .ensures)
 
 pub next-key-spec : {M : Type 1} → statement M
 next-key-spec =

@@ -1,17 +1,13 @@
--- `aes::sub_byte` meets its contract: the table is the printed box, which is the defined one. Assumes nothing.
-use mathlib.Core.Path.{_∙_, ap}
-use mathlib.Core.List.{List}
-use Prim.Native.Nat.{ℕ}
-use lib.ListN.{getD}
+-- `aes::sub_byte` meets its contract. Assumes nothing.
 use borrow.Author.Needs.{needs}
-use Rattle.aes.proofs.Box.{box-is}
+use Rattle.aes.specs.Box.{subByte}
+use Rattle.aes.proofs.Bytes.{sub-byte}
+use Rattle.aes.proofs.Elements.{lowest}
 use Rattle.aes.proofs.sub_byte.Statement.{statement}
 use Rattle.aes.proofs.sub_byte.Tie as tie
 
 returns : tie.Need-returns
-returns c =
-    let b = c .before .args .b in
-    ap (λ (l : List ℕ). getD l b 0) (c .before .pre) ∙ box-is b (search needs)
+returns c = lowest subByte sub-byte (c .before .args .b) (search needs) (c .subs .ensures)
 
 pub sub-byte-spec : {M : Type 1} → statement M
-sub-byte-spec = tie.close (tie.spec (λ c. search needs) returns)
+sub-byte-spec = tie.close (tie.spec (λ c κs. search needs) (λ c. search needs) returns)
