@@ -42,6 +42,14 @@ fn main() {
     let mut keys = [[0u8; 16]; 11];
     unsafe { cloudgraze_aes_expand_key(&key, &mut keys) };
     assert_eq!(keys, plain::expand_key(&key), "round keys differ");
+    let (mut a, mut b) = (keys, keys);
+    let t = measure(
+        3000,
+        || (0..400).for_each(|_| unsafe { cloudgraze_aes_expand_key(black_box(&key), &mut a) }),
+        || (0..400).for_each(|_| b = plain::expand_key(black_box(&key))),
+    );
+    assert_eq!(a, b, "round keys differ");
+    show("round keys of a key", t, 400.0);
 
     let mut blocks = [[0u8; 16]; 400];
     for b in blocks.iter_mut() {

@@ -86,7 +86,7 @@ pub record Elements (w : ℕ) (f : ℕ → ℕ) : Type 0 where
   pub number : w ≡ packed 8 f
   pub bytes : Bytewise f
 
--- its own
+-- those that it has
 pub elements : (w : ℕ) → U64 w → Elements w (element w)
 elements w h = record { number = whole 8 w h; bytes = element-byte w }
 
@@ -135,6 +135,12 @@ pub both-rows : {w : ℕ} {f : ℕ → ℕ} → Elements w f
 both-rows e =
     λ t. by-four (element-at e 0 (lit< tt)) (element-at e 1 (lit< tt)) (element-at e 2 (lit< tt)) (element-at e 3 (lit< tt)) t
     ∷ by-four (element-at e 4 (lit< tt)) (element-at e 5 (lit< tt)) (element-at e 6 (lit< tt)) (element-at e 7 (lit< tt)) t ∷ []
+
+-- a function on each byte of two rows
+pub rows-applied : {p v : ℕ} (g : ℕ → ℕ) → ((b : ℕ) → g b < 256) → (a b : List ℕ) → ((i : ℕ) → Fits w8 (getD a i 0)) → ((i : ℕ) → Fits w8 (getD b i 0))
+    → p ≡ packed 8 (twoRows a b) → v ≡ each g p
+    → _≡_ {A = List (List ℕ)} (four (element v) ∷ four (λ c. element v (4 + c)) ∷ []) (four (λ c. g (getD a c 0)) ∷ four (λ c. g (getD b c 0)) ∷ [])
+rows-applied g h a b ha hb p q = both-rows (applied g (of-rows a b ha hb p) (λ i. h (twoRows a b i)) q)
 
 -- ---- sums, products by a constant, masks
 pub xor-elements : {u v : ℕ} {f g : ℕ → ℕ} → Elements u f → Elements v g → Elements (u ⊕ v) (λ i. f i ⊕ g i)

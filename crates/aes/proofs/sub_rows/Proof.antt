@@ -2,17 +2,16 @@
 use mathlib.Core.Path.{_∙_}
 use borrow.Author.Needs.{needs}
 use Rattle.aes.specs.Box.{subByte}
-use Rattle.aes.specs.Packed.{twoRows}
 use Rattle.aes.proofs.Bytes.{sub-byte}
-use Rattle.aes.proofs.Elements.{applied, of-rows, both-rows}
+use Rattle.aes.proofs.Elements.{rows-applied}
 use Rattle.aes.proofs.sub_rows.Statement.{statement}
 use Rattle.aes.proofs.sub_rows.Tie as tie
 
 returns : tie.Need-returns
 returns c =
     let w = c .before .before .before .args in
-    let e = of-rows (w .a) (w .b) (λ i. search needs) (λ i. search needs) (c .before .before .pack .ensures) in
-    c .unpack .ensures ∙ both-rows (applied subByte e (λ i. sub-byte (twoRows (w .a) (w .b) i)) (c .before .subs .ensures))
+    c .unpack .ensures
+    ∙ rows-applied subByte sub-byte (w .a) (w .b) (λ i. search needs) (λ i. search needs) (c .before .before .pack .ensures) (c .before .subs .ensures)
 
 pub sub-rows-spec : {M : Type 1} → statement M
 sub-rows-spec = tie.close (tie.spec (λ c κs. search needs) (λ c κs. search needs) (λ c κs. search needs) returns)

@@ -2,17 +2,16 @@
 use mathlib.Core.Path.{_∙_}
 use borrow.Author.Needs.{needs}
 use Rattle.aes.specs.Box.{invSubByte}
-use Rattle.aes.specs.Packed.{twoRows}
 use Rattle.aes.proofs.Bytes.{inv-sub-byte}
-use Rattle.aes.proofs.Elements.{applied, of-rows, both-rows}
+use Rattle.aes.proofs.Elements.{rows-applied}
 use Rattle.aes.proofs.inv_cipher.inv_sub_rows.Statement.{statement}
 use Rattle.aes.proofs.inv_cipher.inv_sub_rows.Tie as tie
 
 returns : tie.Need-returns
 returns c =
     let w = c .before .before .before .args in
-    let e = of-rows (w .a) (w .b) (λ i. search needs) (λ i. search needs) (c .before .before .pack .ensures) in
-    c .unpack .ensures ∙ both-rows (applied invSubByte e (λ i. inv-sub-byte (twoRows (w .a) (w .b) i)) (c .before .inv-subs .ensures))
+    c .unpack .ensures
+    ∙ rows-applied invSubByte inv-sub-byte (w .a) (w .b) (λ i. search needs) (λ i. search needs) (c .before .before .pack .ensures) (c .before .inv-subs .ensures)
 
 pub inv-sub-rows-spec : {M : Type 1} → statement M
 inv-sub-rows-spec = tie.close (tie.spec (λ c κs. search needs) (λ c κs. search needs) (λ c κs. search needs) returns)
