@@ -1,9 +1,11 @@
--- Values that FIPS 197 gives in its text, and a counter block, by computation. Assumes nothing.
+-- Values that FIPS 197 gives in its text, packed elements and a counter block, by computation. Assumes nothing.
 use mathlib.Core.Path.{_≡_, refl}
 use mathlib.Core.List.{[], _∷_}
+use Prim.Native.Nat.{_+_}
 use Rattle.aes.specs.Field.{xtime, times, _•_}
 use Rattle.aes.specs.Box.{subByte, affine, turned, inverse, powers, invSubByte, invAffine}
 use Rattle.aes.specs.Cipher.{rcon}
+use Rattle.aes.specs.Packed.{packed, element, each, timesX}
 use Rattle.aes.specs.Ctr.{counterBlock}
 
 -- section 4.2
@@ -25,6 +27,23 @@ substituted = refl
 substituted-back : invSubByte 0xed ≡ 0x53
 unfolding invSubByte invAffine turned inverse powers _•_ times xtime
 substituted-back = refl
+
+-- eight elements in a number, the first the lowest; one of them again; x times each, of 0x57 and 0x8e as section 4.2.1 has them
+packed-eight : packed 8 (λ i. i + 1) ≡ 0x0807060504030201
+unfolding packed
+packed-eight = refl
+
+third : element 0x0807060504030201 2 ≡ 3
+third = refl
+
+each-doubled : each xtime 0x8e57 ≡ 0x07ae
+unfolding packed xtime
+each-doubled = refl
+
+-- modulo x^8 + 1 the highest digit comes in again as the lowest
+turned-left : timesX 1 0x81 ≡ 0x03
+unfolding timesX
+turned-left = refl
 
 -- section 5.2: the constants of round keys 9 and 10
 constants : rcon 8 ∷ rcon 9 ∷ [] ≡ 0x1b ∷ 0x36 ∷ []
