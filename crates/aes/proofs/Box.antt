@@ -9,6 +9,7 @@ use lib.ListN.{length, getD}
 use Rattle.wire.proofs.Table.{at, every, and-left, and-right}
 use Rattle.aes.specs.Field.{_⊕_, xtime, times, _•_}
 use Rattle.aes.specs.Box.{powers, inverse, turned, affine, subByte, printedBox, invAffine, invSubByte, printedInvBox}
+use Rattle.aes.specs.Boxes.{AtAllBytes}
 use Rattle.aes.specs.Packed.{timesX}
 use Rattle.aes.proofs.Bytes.{inverse-byte, sub-byte, inv-sub-byte}
 
@@ -129,3 +130,6 @@ inv-sub = undone printedBox printedInvBox subByte invSubByte box-is (λ k h. inv
 pub sub-inv : (b : ℕ) → b < 256 → subByte (invSubByte b) ≡ b
 unfolding back printedBox printedInvBox
 sub-inv = undone printedInvBox printedBox invSubByte subByte inv-box-is (λ k h. box-is (invSubByte k) (inv-sub-byte k)) tt
+
+pub boxes : AtAllBytes
+boxes b h = record { undone = inv-sub b h; redone = sub-inv b h; printed = box-is b h; printed-back = inv-box-is b h }

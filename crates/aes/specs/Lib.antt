@@ -1,5 +1,6 @@
 pub mod Field
 pub mod Box
+pub mod Boxes
 pub mod Cipher
 pub mod Packed
 pub mod InvCipher
