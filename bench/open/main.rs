@@ -97,6 +97,7 @@ fn packets() -> Vec<Packet> {
     list
 }
 
+// Each message is opened with a fresh session on both sides, which remembers no packet nonce: 28 does not occur, though some have the same nonce.
 fn ours(p: &Packet, work: &mut [u8; 496]) -> u64 {
     unsafe { cloudgraze_open(&KEY, &SESSION.nonce, SESSION.minutes, SESSION.since, TIME, &p.bytes, p.len, work) }
 }

@@ -1,6 +1,6 @@
 #!/usr/bin/env python3
 """Writes what crates/refusal_cases must print for the cases in its stdin (their fields: crates/refusal_cases/src/main.rt), by document 01 as changed by
-document 02 §2. AES-CTR is that of the package `cryptography`.
+document 02 §2 and §6. AES-CTR is that of the package `cryptography`.
 
     python3 bench/refusals/outcomes.py [CASES] > crates/refusal_cases/stdout
 """
@@ -14,6 +14,7 @@ REPLIES = {n: "error 9900" for n in (5, 6, 7, 12, 13, 14, 16, 17)} | {
     18: "code 32", 19: "code 44", 20: "code 36", 21: "code 40", 22: "code 48", 23: "code 32", 24: "code 33"}
 MARKS = {0: "S", 1: "A", 2: "AMB", 3: "AMB", 4: "AMBS", 5: "AMBS", 6: "A", 10: "A", 11: "A", 12: "AMB", 13: "AMB", 20: "AMBS", 21: "AMB"}
 LEVELS = {0: "A", 1: "M", 2: "B", 100: "S"}
+EMPTY = 0, [bytes(3)] * 8
 
 
 class Refused(Exception):
@@ -108,8 +109,24 @@ def least(size):
     return -(-size // 16)
 
 
-def open_frame(head, payload, keys, setup, required, session, now, room, work):
-    """The first 16n bytes of the work buffer go to the list `work`, where they are touched."""
+def there(held, memory):
+    """A count outside its limits is taken as no session."""
+    return held and memory[0] <= 8
+
+
+def judge_nonce(packet_nonce, memory):
+    count, places = memory
+    refuse(28, packet_nonce in places[:count])
+
+
+def remember(packet_nonce, memories):
+    """Newest first, in eight places."""
+    count, places = memories[-1]
+    memories.append((min(8, count + 1), [packet_nonce, *places][:8]))
+
+
+def open_frame(head, payload, keys, setup, required, session, now, room, work, memories):
+    """The first 16n bytes of the work buffer go to the list `work`, where they are touched, and the memory after to `memories`, where it changes."""
     major, _, wrapper = head
     nonce, minutes, since, held = session
     refuse(5, major != 1)
@@ -119,30 +136,34 @@ def open_frame(head, payload, keys, setup, required, session, now, room, work):
         return message(payload, False, required, setup)
     n = blocks(payload, room)
     refuse(10, payload[3] != 0 or setup or keys[0] == "-")
-    refuse(8, not held)
+    refuse(8, not there(held, memories[-1]))
     refuse(9, now < since or now - since >= 60 * minutes)
+    judge_nonce(payload[:3], memories[-1])
     text = ctr(keys[0], payload[:3], nonce, payload[4:])
     work.append(bytes(16 * n))
     refuse(11, number(text, 0, 4) != 0xCAFEBABE)
     size = number(text, 4, 2)
     refuse(12, size < 2 or n != least(6 + size))
+    remember(payload[:3], memories)
     answer = message(text[6:6 + size], True, required, setup)
     work.append(text)
     return answer
 
 
-def open_packet(packet, keys, setup, connection, room, work):
+def open_packet(packet, keys, setup, connection, room, work, memories):
     nonce, validation, held = connection
     n = blocks(packet, room)
     level = LEVELS.get(packet[3], "-")
     refuse(10, level not in keys or (level == "S") != setup or level == "-")
-    refuse(8, not held)
+    refuse(8, not there(held, memories[-1]))
+    judge_nonce(packet[:3], memories[-1])
     text = ctr(level, packet[:3], nonce, packet[4:])
     work.append(bytes(16 * n))
     refuse(11, text[:4] != validation)
     end = 4 + 5 + number(text, 7, 2)
     refuse(18, n != least(end))
     refuse(13, any(text[end:]))
+    remember(packet[:3], memories)
     content, q = control(text[4:end], setup, level)
     work.append(text)
     return content, q, None
@@ -154,27 +175,46 @@ def parsed(text):
     return b"".join(bytes.fromhex(pair) * (int(n) if star else 1) for pair, star, n in pieces)
 
 
+def memory_of(words):
+    """A count and places; those not given are zero."""
+    places = [bytes.fromhex(word) for word in words[1:]]
+    return (int(words[0]), places + EMPTY[1][len(places):]) if words else EMPTY
+
+
+def memory_words(memory):
+    """Nothing for an empty memory, and no zero places at the end."""
+    count, places = memory
+    told = max((i + 1 for i in range(8) if any(places[i])), default=0)
+    return [str(count), *(place.hex() for place in places[:told])] if count or told else []
+
+
 def outcome(line):
     label, (route, *setting), keys, state, now, head, room, sealed, given = line.split("|")
-    payload, work, state = parsed(given), [b""], state.split()
+    words, size = state.split(), 4 if route == "u" else 3
+    payload, work, fields, memories = parsed(given), [b""], words[:size], [memory_of(words[size:])]
     if sealed != "=":
         letter, nonce = sealed.split()
         payload = payload[:4] + ctr(letter, bytes([1, 2, 3]), bytes.fromhex(nonce), payload[4:])
-    setup, after = setting[0] == "s", "kept"
+    setup = setting[0] == "s"
     try:
         if route == "u":
-            session = (bytes.fromhex(state[0]), *map(int, state[1:]))
-            content, q, nonce = open_frame(bytes.fromhex(head), payload, keys, setup, setting[1] == "r", session, int(now), int(room), work)
-            after = f"{nonce[0].hex()} {nonce[1]} {now} 1" if nonce else after
+            session = (bytes.fromhex(fields[0]), *map(int, fields[1:]))
+            content, q, new = open_frame(bytes.fromhex(head), payload, keys, setup, setting[1] == "r", session, int(now), int(room), work, memories)
+            if new:
+                # "empties the memory unless it equals the one held"
+                memories.append(memories[-1] if there(session[3], memories[-1]) and new[0] == session[0] else EMPTY)
+                fields = [new[0].hex(), str(new[1]), now, "1"]
         else:
-            connection = (bytes.fromhex(state[0]), bytes.fromhex(state[1]), int(state[2]))
-            content, q, _ = open_packet(payload, keys, setup, connection, int(room), work)
+            connection = (bytes.fromhex(fields[0]), bytes.fromhex(fields[1]), int(fields[2]))
+            content, q, _ = open_packet(payload, keys, setup, connection, int(room), work, memories)
         answer = " ".join(map(str, content)) + f" accepted, payload {q.hex()}"
     except Refused as refusal:
         n = refusal.args[0]
-        # "On the characteristic, 25 and numbers below 18 get no reply"
-        silent = n == 25 or route == "c" and n < 18
+        # "On the characteristic, 25 and numbers below 18 get no reply"; 28 gets none on either route
+        silent = n in (25, 28) or route == "c" and n < 18
         answer = f"refused {n} " + ("no reply" if silent else REPLIES[n])
+    after = " ".join(fields + memory_words(memories[-1]))
+    after = "kept" if after == state else after
     front = work[-1].rstrip(b"\xee")
     return f"{label} {answer}; session {after}; work {front.hex()}+ee*{int(room) - len(front)}"
 

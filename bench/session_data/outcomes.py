@@ -1,6 +1,7 @@
 #!/usr/bin/env python3
 """Writes the cases of crates/session_data_cases, its stdin, and what it must print for them, its stdout. AES-128 ECB is that of the
-package `cryptography`; layout, refusals and their order come from document 02 §3, byte order, keys and room from document 01.
+package `cryptography`; layout, refusals and their order come from document 02 §3, what becomes of the remembered packet nonces from §6, byte
+order, keys and room from document 01.
 
     python3 bench/session_data/outcomes.py [FOLDER]
 """
@@ -11,7 +12,7 @@ from cryptography.hazmat.primitives.ciphers import Cipher, algorithms, modes
 
 KEYS = {"A": 0x10, "M": 0x30, "B": 0x50, "S": 0x70}
 CAFEBABE = (0xCAFEBABE).to_bytes(4, "little")
-FRESH = ("none", bytes(5), bytes(4))
+FRESH = ("none", bytes(5), bytes(4), "")
 
 
 def ecb(letter):
@@ -44,7 +45,13 @@ def read(mode, keys, old, block):
         return "refused 13", old
     if text[4] != 5:
         return "refused 19", old
-    return "accepted", ("held", text[5:10], text[10:14])
+    return "accepted", ("held", text[5:10], text[10:14], memory_after(old, text[5:10]))
+
+
+def memory_after(old, nonce):
+    """an accepted session nonce empties the memory unless it equals the one held; where the count is above 8 none is held"""
+    held, was, _, memory = old
+    return memory if held == "held" and was == nonce and int(memory.partition(" ")[0] or 0) <= 8 else ""
 
 
 def write(mode, keys, nonce, validation, room):
@@ -60,23 +67,54 @@ def write(mode, keys, nonce, validation, room):
 def outcome(line):
     """the line of stdout for a line of stdin"""
     def show(answer, connection):
-        return f"{answer}, {connection[0]} {connection[1].hex()} {connection[2].hex()}"
+        held, nonce, validation, memory = connection
+        return f"{answer}, {held} {nonce.hex()} {validation.hex()} {memory}".rstrip()
     kind, name, mode, keys, given, nonce, validation, *block = line.split("|")
+    validation, _, memory = validation.partition(" ")
     nonce, validation = bytes.fromhex(nonce), bytes.fromhex(validation)
     if kind == "read":
-        return f"{name}: " + show(*read(mode, keys, (given, nonce, validation), bytes.fromhex(block[0])))
+        return f"{name}: " + show(*read(mode, keys, (given, nonce, validation, memory), bytes.fromhex(block[0])))
     answer, room = write(mode, keys, nonce, validation, bytes([0xEE]) * int(given))
     back = ", read back " + show(*read(mode, keys, FRESH, room[:16])) if answer == "wrote 16" else ""
     return f"{name}: {answer}, room {room.hex()}{back}"
 
 
-# From here on the cases; bytes are written in base 16.
+# From here on the cases; bytes are written in base 16. A memory is a count and its places, but for zero places at the end; an empty one is nothing.
 NONCE, VALIDATION = "c1c2c3c4c5", "d6d7d8d9"
 HELD = ("held", "a1a2a3a4a5", "b6b7b8b9")
+EIGHT = "010203 111213 212223 313233 414243 515253 616263 717273"
+MEMORIES = {"one remembered": "1 010203", "eight remembered": "8 " + EIGHT, "eight zeros remembered": "8", "a place beyond count 2": "2 010203 111213 212223",
+            "a place beyond count 0": "0 010203", "count 9": "9 " + EIGHT, "count 9 and zeros": "9", "count 264": "264 010203",
+            "count 2^32": "4294967296 010203", "count 10^19 - 1": "9999999999999999999 010203"}
 OLD = {"old held": HELD, "old none": ("none", "0000000000", "00000000"), "old none with fields": ("none", "9192939495", "86878889")}
 PAIRS = {"zero": ("0000000000", "00000000"), "ff": ("ffffffffff", "ffffffff"), "zero and ff": ("0000000000", "ffffffff"),
          "ff and zero": ("ffffffffff", "00000000"), "one to nine": ("0102030405", "06070809"), "mixed": ("7e5c00ff80", "05cafe00"),
          "validation key CAFEBABE": ("0500bebafe", "bebafeca")}
+
+
+def memory_cases(reading, block, without):
+    """what an answer does to the memory of the old connection"""
+    def old(memory, flag="held"):
+        return flag, HELD[1], f"{HELD[2]} {MEMORIES[memory]}"
+
+    same = block(nonce=HELD[1])
+    for memory in MEMORIES:
+        yield reading(f"accepted, another nonce, {memory}", block(), old=old(memory))
+        yield reading(f"accepted, nonce as held, {memory}", same, old=old(memory))
+    for memory in ("eight remembered", "count 9"):
+        yield reading(f"accepted, both as held, {memory}", block(nonce=HELD[1], validation=HELD[2]), old=old(memory))
+        yield reading(f"accepted, another nonce, old none, {memory}", block(), old=old(memory, "none"))
+        yield reading(f"accepted, nonce as in an old none, {memory}", same, old=old(memory, "none"))
+        yield reading(f"length 15, {memory}", same[:15], old=old(memory))
+        yield reading(f"key absent, {memory}", same, without, old(memory))
+        yield reading(f"CAFEBABE wrong, {memory}", block(check="bebafecb"), old=old(memory))
+        yield reading(f"padding 0001, {memory}", block(padding="0001"), old=old(memory))
+        yield reading(f"protocol 4, {memory}", block(protocol=4), old=old(memory))
+        yield reading(f"protocol 4, old none, {memory}", block(protocol=4), old=old(memory, "none"))
+    for at in range(5):
+        nonce = bytearray.fromhex(HELD[1])
+        nonce[at] ^= 1
+        yield reading(f"accepted, nonce as held but for byte {at}, one remembered", block(nonce=nonce.hex()), old=old("one remembered"))
 
 
 def cases_of(mode):
@@ -110,6 +148,7 @@ def cases_of(mode):
     yield reading("accepted, validation key as held", block(validation=HELD[2]))
     for flag in ("held", "none"):
         yield reading(f"accepted, both as in an old {flag}", block(nonce=HELD[1], validation=HELD[2]), old=(flag, *HELD[1:]))
+    yield from memory_cases(reading, block, without)
 
     for n in (0, 1, 17, 20, 31, 32, 33, 40, 48):  # 7: as much of good blocks as goes in
         yield reading(f"length {n}", (3 * good)[:n])

@@ -1,5 +1,5 @@
 -- The parts of the characteristic's opener put together. Assumes nothing.
-use mathlib.Core.Path.{_≡_, refl, sym, _∙_}
+use mathlib.Core.Path.{_≡_, refl, sym, ap, ap₂, _∙_}
 use mathlib.Core.List.{List, _++_}
 use Prim.Native.Nat.{ℕ, zero, suc, _+_, _-_, _*_, _≤_}
 use native.Mathlib.Omega.{arith}
@@ -7,7 +7,7 @@ use lib.ListN.{length, getD, drop}
 use borrow.Author.Tests.{eq-eqb}
 use Rattle.wire.specs.Numbers.{num}
 use Rattle.wire.specs.Rules.{firstBroken, verdict, judge}
-use Rattle.wire.proofs.Rules.{verdict-map, judge-append}
+use Rattle.wire.proofs.Rules.{verdict-map, judge-append, judge-pass}
 use Rattle.wire.proofs.Held.{held}
 use Rattle.access.specs.declared.Mode.{Mode}
 use Rattle.access.specs.declared.Access.{Access}
@@ -15,14 +15,16 @@ use Rattle.control.specs.Control.{commandRules, commandAt, readControl, readCom
 use Rattle.control.proofs.Reading.{control-read}
 use Rattle.control.specs.declared.Command.{Command}
 use Rattle.control.specs.declared.ControlRead.the-variants.{Accepted as ControlAccepted, Refused as ControlRefused}
-use Rattle.envelope.specs.Blocks.{blocksIn, cleared}
+use Rattle.session.specs.Session.{connectionRemembering}
+use Rattle.envelope.specs.Blocks.{blocksIn, packetNonce, cleared}
 use Rattle.envelope.specs.Characteristic.{characteristicRules, packetIn}
 use Rattle.envelope.proofs.Envelopes.{length-deciphered}
 use Rattle.envelope.proofs.Unsealed.{packet-sized}
-use Rattle.bridge.specs.Characteristic.{levelKey, connectionRules, packetEntryRules, packetText, packetTextRules, packetOpenRules, acceptedCommand, characteristicAnswerOf, characteristicWorkAfter}
-use Rattle.bridge.specs.Opening.{refusedCommand, commandAnswerBy, commandTextAnswer, commandWorkBy}
-use Rattle.bridge.proofs.Judging.{blocks-whole, stopped-before, accepted-behind, refused-behind}
+use Rattle.bridge.specs.Characteristic.{levelKey, packetEntryRules, packetText, packetTextRules, packetOpenRules, acceptedCommand, characteristicAnswerOf, connectionAfter, characteristicOpened, characteristicWorkAfter}
+use Rattle.bridge.specs.Opening.{refusedCommand, commandAnswerBy, commandTextAnswer, textConnection, openedCommandAs, commandTextOpened, commandWorkBy}
+use Rattle.bridge.proofs.Judging.{judge-stop, blocks-whole, stopped-before, accepted-behind, refused-behind}
 use Rattle.bridge.specs.declared.Link.{Link}
+use Rattle.bridge.specs.declared.OpenedCommand.{OpenedCommand}
 use Rattle.bridge.specs.declared.CommandAnswer.{CommandAnswer}
 use Rattle.bridge.specs.declared.CommandAnswer.the-variants.{Accepted, Refused}
 use Rattle.bridge.specs.declared.Place.{Place}
@@ -59,18 +61,25 @@ module _ (k : Link) (p work : List ℕ) where
   unfolding characteristicAnswerOf packetOpenRules commandTextAnswer
   halves = judge-append refusedCommand (packetEntryRules k (length work) p) (packetTextRules k (getD p 3 0) (packetText k p)) (acceptedCommand (packetText k p))
 
+  connection-halves : connectionAfter k (length work) p ≡ judge (λ n. k .connection) (packetEntryRules k (length work) p) (textConnection k (packetNonce p) (packetText k p))
+  unfolding connectionAfter textConnection
+  connection-halves =
+      judge-append (λ n. k .connection) (packetEntryRules k (length work) p) (characteristicRules (k .connection .validation) (packetText k p)) (connectionRemembering (k .connection) (packetNonce p))
+
   -- refused before it is deciphered
   pub refused-before : {n : ℕ} → n ≡ firstBroken (packetEntryRules k (length work) p) → (n ≡ 0 → ⊥)
-      → (refusedCommand n ≡ characteristicAnswerOf k (length work) p) × (work ≡ characteristicWorkAfter k p work)
-  unfolding commandTextAnswer characteristicWorkAfter
-  refused-before e h =
-      let s = stopped-before refusedCommand (acceptedCommand (packetText k p)) (packetEntryRules k (length work) p) (packetTextRules k (getD p 3 0) (packetText k p)) (blocksIn p) (packetText k p) work e h in
-      (s .0 ∙ sym halves, s .1)
+      → (openedCommandAs (refusedCommand n) (k .connection) ≡ characteristicOpened k (length work) p) × (work ≡ characteristicWorkAfter k p work)
+  unfolding commandTextAnswer characteristicOpened characteristicWorkAfter
+  refused-before {n} e h =
+      let entry = packetEntryRules k (length work) p in
+      let t = packetText k p in
+      let s = stopped-before refusedCommand (acceptedCommand t) entry (packetTextRules k (getD p 3 0) t) (blocksIn p) t work e h in
+      (ap₂ openedCommandAs (s .0 ∙ sym halves) (sym (connection-halves ∙ judge-stop (λ n. k .connection) entry (textConnection k (packetNonce p) t) n e h)), s .1)
 
   module _ (entered : firstBroken (packetEntryRules k (length work) p) ≡ 0) where
     pub whole : (length p ≡ 4 + 16 * blocksIn p) × (16 * blocksIn p ≤ length work)
     unfolding packetEntryRules
-    whole = blocks-whole p (length work) (connectionRules k (getD p 3 0)) entered
+    whole = blocks-whole p (length work) (drop 2 (packetEntryRules k (length work) p)) entered
 
     pub long : length (packetText k p) ≡ 16 * blocksIn p
     unfolding packetText
@@ -96,9 +105,21 @@ module _ (k : Link) (p work : List ℕ) where
         let s = refused-behind refusedCommand (acceptedCommand t) (packetEntryRules k (length work) p) r (blocksIn p) t work long entered e (some-broken (firstBroken r) t e) w q c in
         (s .0 ∙ sym halves, s .1)
 
-    -- either, by the answer
-    pub answered-after : (a : CommandAnswer) {before after : List ℕ} {n : ℕ} → a ≡ commandTextAnswer k (getD p 3 0) (packetText k p)
+    left-after : (a : CommandAnswer) {before after : List ℕ} {n : ℕ} → a ≡ commandTextAnswer k (getD p 3 0) (packetText k p)
         → before ≡ packetText k p ++ drop (16 * blocksIn p) work → n ≡ 16 * blocksIn p → after ≡ commandWorkBy n before a
         → (a ≡ characteristicAnswerOf k (length work) p) × (after ≡ characteristicWorkAfter k p work)
-    answered-after (Accepted c at) e w q z = accepted-after e (z ∙ w)
-    answered-after (Refused r) e w q z = refused-after e w q z
+    left-after (Accepted c at) e w q z = accepted-after e (z ∙ w)
+    left-after (Refused r) e w q z = refused-after e w q z
+
+    -- either, by the answer; and the connection
+    pub answered-after : {r : OpenedCommand} {before after : List ℕ} {n : ℕ} → r ≡ commandTextOpened k (getD p 3 0) (packetNonce p) (packetText k p)
+        → before ≡ packetText k p ++ drop (16 * blocksIn p) work → n ≡ 16 * blocksIn p → after ≡ commandWorkBy n before (r .answer)
+        → (r ≡ characteristicOpened k (length work) p) × (after ≡ characteristicWorkAfter k p work)
+    unfolding characteristicOpened
+    answered-after {r} e w q z =
+        let entry = packetEntryRules k (length work) p in
+        let t = packetText k p in (
+          e ∙ ap₂ openedCommandAs (sym (halves ∙ judge-pass refusedCommand entry (commandTextAnswer k (getD p 3 0) t) entered))
+              (sym (connection-halves ∙ judge-pass (λ n. k .connection) entry (textConnection k (packetNonce p) t) entered)),
+          left-after (r .answer) (ap (λ (x : OpenedCommand). x .answer) e) w q z .1,
+        )

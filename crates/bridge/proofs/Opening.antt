@@ -1,14 +1,14 @@
 -- The opener's parts put together. Assumes nothing.
-use mathlib.Core.Path.{_≡_, refl, sym, ap, _∙_}
+use mathlib.Core.Path.{_≡_, refl, sym, ap, ap₂, _∙_}
 use mathlib.Core.Bool.{Bool, true, false, _||_}
 use mathlib.Core.List.{List, _∷_, _++_}
 use Prim.Native.Nat.{ℕ, zero, suc, _+_, _-_, _*_, _≤_}
 use native.Mathlib.Omega.{arith}
-use lib.ListN.{length, getD, drop}
+use lib.ListN.{length, drop}
 use lib.Dec.{eqb, ltb}
 use borrow.Author.Tests.{le-ltb, ne-eqb}
 use Rattle.wire.specs.Rules.{_when_, firstBroken, verdict, judge}
-use Rattle.wire.proofs.Rules.{verdict-map, judge-append}
+use Rattle.wire.proofs.Rules.{verdict-map, judge-append, judge-pass, judge-map}
 use Rattle.wire.specs.Choice.{pick}
 use Rattle.message.specs.Message.{partsAt}
 use Rattle.message.specs.Reading.{messageRules, messageAt, readMessage}
@@ -17,13 +17,15 @@ use Rattle.message.specs.declared.Form.the-variants.{Plain}
 use Rattle.message.specs.declared.Message.{Message}
 use Rattle.message.specs.declared.Message.the-variants.{Hello, SessionNonce, Heartbeat, Status, GetMac, Control, HubReply}
 use Rattle.message.specs.declared.MessageRead.the-variants.{Accepted as ReadAccepted, Refused as ReadRefused}
-use Rattle.envelope.specs.Blocks.{blocksIn, cleared}
-use Rattle.envelope.specs.Sealed.{messageIn}
+use Rattle.session.specs.Session.{sessionRemembering}
+use Rattle.envelope.specs.Blocks.{blocksIn, packetNonce, cleared}
+use Rattle.envelope.specs.Sealed.{lateRules, messageIn}
 use Rattle.envelope.proofs.Envelopes.{length-deciphered}
-use Rattle.bridge.specs.Opener.{plainRules, acceptedMessage, sessionRules, uartEntryRules, uartText, uartTextRules, headRules, uartOpenRules, answerOf, workAfter, adminKey}
-use Rattle.bridge.specs.Opening.{refusedAnswer, answerBy, plainAnswer, textAnswer, sealedAnswer, sealedWork, blocksAfter, workBy}
-use Rattle.bridge.proofs.Judging.{blocks-whole, stopped-before, accepted-behind, refused-behind}
+use Rattle.bridge.specs.Opener.{plainRules, acceptedMessage, uartEntryRules, uartText, uartTextRules, headRules, uartOpenRules, answerOf, sessionBy, sessionAfter, opened, workAfter, adminKey}
+use Rattle.bridge.specs.Opening.{refusedAnswer, answerBy, sessionByAnswer, plainAnswer, plainSession, textAnswer, textSession, sealedAnswer, sealedSession, openedAs, plainOpened, textOpened, sealedOpened, sealedWork, blocksAfter, workBy}
+use Rattle.bridge.proofs.Judging.{judge-stop, blocks-whole, stopped-before, accepted-behind, refused-behind}
 use Rattle.bridge.specs.declared.Context.{Context}
+use Rattle.bridge.specs.declared.Opened.{Opened}
 use Rattle.bridge.specs.declared.Answer.{Answer}
 use Rattle.bridge.specs.declared.Answer.the-variants.{Accepted, Refused}
 use Rattle.bridge.specs.declared.Place.{Place}
@@ -67,7 +69,7 @@ some-broken (suc n) l e z = omega arith
 module _ (g : Context) (p work : List ℕ) (entered : firstBroken (uartEntryRules g (length work) p) ≡ 0) where
   pub whole : (length p ≡ 4 + 16 * blocksIn p) × (16 * blocksIn p ≤ length work)
   unfolding uartEntryRules
-  whole = blocks-whole p (length work) (sessionRules g (getD p 3 0)) entered
+  whole = blocks-whole p (length work) (drop 2 (uartEntryRules g (length work) p)) entered
 
   pub long : length (uartText g p) ≡ 16 * blocksIn p
   unfolding uartText
@@ -90,19 +92,39 @@ module _ (g : Context) (p work : List ℕ) (entered : firstBroken (uartEntryRule
       refused-behind refusedAnswer (acceptedMessage true 6 (messageIn t)) (uartEntryRules g (length work) p) (uartTextRules g t) (blocksIn p) t work long entered e
       (some-broken (firstBroken (uartTextRules g t)) (messageIn t) e) w q c
 
-  -- either, by the answer
-  pub answered-after : (a : Answer) {before after : List ℕ} {k : ℕ} → a ≡ textAnswer g (uartText g p)
+  left-after : (a : Answer) {before after : List ℕ} {k : ℕ} → a ≡ textAnswer g (uartText g p)
       → before ≡ uartText g p ++ drop (16 * blocksIn p) work → k ≡ 16 * blocksIn p → after ≡ workBy k before a
       → (a ≡ sealedAnswer g (length work) p) × (after ≡ sealedWork g p work)
-  answered-after (Accepted m at) e w q c = accepted-after e (c ∙ w)
-  answered-after (Refused r) e w q c = refused-after e w q c
+  left-after (Accepted m at) e w q c = accepted-after e (c ∙ w)
+  left-after (Refused r) e w q c = refused-after e w q c
+
+  -- either, by the answer; and the session
+  pub answered-after : {r : Opened} {before after : List ℕ} {k : ℕ} → r ≡ textOpened g (packetNonce p) (uartText g p)
+      → before ≡ uartText g p ++ drop (16 * blocksIn p) work → k ≡ 16 * blocksIn p → after ≡ workBy k before (r .answer)
+      → (r ≡ sealedOpened g (length work) p) × (after ≡ sealedWork g p work)
+  unfolding sealedAnswer sealedSession
+  answered-after {r} e w q c =
+      let entry = uartEntryRules g (length work) p in
+      let t = uartText g p in (
+        e ∙ ap₂ openedAs (sym (judge-pass refusedAnswer entry (textAnswer g t) entered)) (sym (judge-pass (λ n. g .session) entry (textSession g (packetNonce p) t) entered)),
+        left-after (r .answer) (ap (λ (x : Opened). x .answer) e) w q c .1,
+      )
 
 -- refused before it is deciphered
 pub refused-before : (g : Context) (p work : List ℕ) (n : ℕ) → n ≡ firstBroken (uartEntryRules g (length work) p) → (n ≡ 0 → ⊥)
-    → (refusedAnswer n ≡ sealedAnswer g (length work) p) × (work ≡ sealedWork g p work)
-unfolding textAnswer sealedAnswer sealedWork
+    → (openedAs (refusedAnswer n) (g .session) ≡ sealedOpened g (length work) p) × (work ≡ sealedWork g p work)
+unfolding textAnswer sealedAnswer sealedSession sealedWork
 refused-before g p work n e h =
-    stopped-before refusedAnswer (acceptedMessage true 6 (messageIn (uartText g p))) (uartEntryRules g (length work) p) (uartTextRules g (uartText g p)) (blocksIn p) (uartText g p) work e h
+    let entry = uartEntryRules g (length work) p in
+    let t = uartText g p in
+    let s = stopped-before refusedAnswer (acceptedMessage true 6 (messageIn t)) entry (uartTextRules g t) (blocksIn p) t work e h in
+    (ap₂ openedAs (s .0) (sym (judge-stop (λ n. g .session) entry (textSession g (packetNonce p) t) n e h)), s .1)
+
+-- the session after a plain message, by its answer
+pub plain-session : (g : Context) (p : List ℕ) → sessionByAnswer g (plainAnswer g p) ≡ plainSession g p
+unfolding plainAnswer plainSession
+plain-session g p =
+    judge-map (sessionByAnswer g) refusedAnswer (λ n. g .session) (plainRules g p) (acceptedMessage false 0 p) (sessionBy g (messageAt p)) (λ n. refl) (λ e. refl)
 
 -- ---- a frame
 module _ (g : Context) (room : ℕ) (p : List ℕ) where
@@ -114,6 +136,16 @@ module _ (g : Context) (room : ℕ) (p : List ℕ) where
   unfolding plainAnswer answerOf uartOpenRules
   plain-frame = refl
 
+  pub sealed-opened : sealedOpened g room p ≡ opened g room 1 128 p
+  unfolding opened sealedSession textSession sessionAfter
+  sealed-opened =
+      ap₂ openedAs sealed-frame
+      (sym (judge-append (λ n. g .session) (uartEntryRules g room p) (lateRules (uartText g p)) (sessionRemembering (g .session) (packetNonce p))))
+
+  pub plain-opened : plainOpened g p ≡ opened g room 1 0 p
+  unfolding opened plainSession sessionAfter
+  plain-opened = ap₂ openedAs plain-frame refl
+
 pub sealed-left : (g : Context) (p work : List ℕ) → sealedWork g p work ≡ workAfter g 1 128 p work
 unfolding sealedWork workAfter
 sealed-left g p work = refl
@@ -124,16 +156,23 @@ plain-left g p work = refl
 
 -- 5, and 6
 pub wrong-major : (g : Context) (room major wrapper : ℕ) (p work : List ℕ) → (major ≡ 1 → ⊥)
-    → (answerOf g room major wrapper p ≡ refusedAnswer 5) × (workAfter g major wrapper p work ≡ work)
-unfolding answerOf uartOpenRules workAfter
-wrong-major g room major wrapper p work h = (simp (ne-eqb _ _ h), either (eqb wrapper 128))
+    → (openedAs (refusedAnswer 5) (g .session) ≡ opened g room major wrapper p) × (work ≡ workAfter g major wrapper p work)
+unfolding opened answerOf uartOpenRules sessionAfter workAfter
+wrong-major g room major wrapper p work h = (ap₂ openedAs (simp (ne-eqb _ _ h)) (same-session (eqb wrapper 128)), same-work (eqb wrapper 128))
   where
-    either : (b : Bool) → pick b
-        (judge (λ n. work) (headRules major wrapper ++ uartEntryRules g (length work) p) (blocksAfter (blocksIn p) (uartTextRules g (uartText g p)) (uartText g p) work)) work ≡ work
-    either true = simp (ne-eqb _ _ h)
-    either false = refl
+    same-session : (b : Bool) → g .session ≡ pick b
+        (judge (λ n. g .session) (headRules major wrapper ++ (uartEntryRules g room p ++ lateRules (uartText g p))) (sessionRemembering (g .session) (packetNonce p)))
+        (judge (λ n. g .session) (headRules major wrapper ++ plainRules g p) (sessionBy g (messageAt p)))
+    same-session true = simp (ne-eqb _ _ h)
+    same-session false = simp (ne-eqb _ _ h)
+
+    same-work : (b : Bool) → work ≡ pick b
+        (judge (λ n. work) (headRules major wrapper ++ uartEntryRules g (length work) p) (blocksAfter (blocksIn p) (uartTextRules g (uartText g p)) (uartText g p) work)) work
+    same-work true = simp (ne-eqb _ _ h)
+    same-work false = refl
 
 pub wrong-wrapper : (g : Context) (room wrapper : ℕ) (p work : List ℕ) → (wrapper ≡ 128 → ⊥) → (wrapper ≡ 0 → ⊥)
-    → (answerOf g room 1 wrapper p ≡ refusedAnswer 6) × (workAfter g 1 wrapper p work ≡ work)
-unfolding answerOf uartOpenRules workAfter
-wrong-wrapper g room wrapper p work h k = (simp (ne-eqb _ _ k, ne-eqb _ _ h), simp (ne-eqb _ _ h))
+    → (openedAs (refusedAnswer 6) (g .session) ≡ opened g room 1 wrapper p) × (work ≡ workAfter g 1 wrapper p work)
+unfolding opened answerOf uartOpenRules sessionAfter workAfter
+wrong-wrapper g room wrapper p work h k =
+    (ap₂ openedAs (simp (ne-eqb _ _ k, ne-eqb _ _ h)) (simp (ne-eqb _ _ k, ne-eqb _ _ h)), simp (ne-eqb _ _ h))

@@ -1,4 +1,4 @@
--- The opener of a characteristic packet: 7, 25, 10, 8, 11, 18, 13, 19 to 24.
+-- The opener of a characteristic packet: 7, 25, 10, 8, 28, 11, 18, 13, 19 to 24.
 use Prim.Native.Nat.{ℕ, _+_, _*_}
 use mathlib.Core.Path.{_≡_}
 use mathlib.Core.Bool.{true, not}
@@ -13,8 +13,10 @@ use Rattle.access.specs.declared.LevelRead.{LevelRead}
 use Rattle.access.specs.declared.LevelRead.the-variants.{Known, Unknown}
 use Rattle.control.specs.Control.{commandRules, commandAt, controlContent}
 use Rattle.session.specs.Keys.{keyForNumber}
+use Rattle.session.specs.Session.{connectionThere, connectionRemembering}
+use Rattle.session.specs.declared.Connection.{Connection}
 use Rattle.session.specs.declared.Key.{Key}
-use Rattle.envelope.specs.Blocks.{blocksIn, deciphered}
+use Rattle.envelope.specs.Blocks.{blocksIn, deciphered, packetNonce, nonceRule}
 use Rattle.envelope.specs.Characteristic.{characteristicRules, packetIn}
 use Rattle.bridge.specs.Opener.{blockRules}
 use Rattle.bridge.specs.Reply.{characteristicRefusal}
@@ -39,12 +41,12 @@ accessFor Unknown = UnknownAccess
 unfoldable pub connectionRules : Link → ℕ → List Rule
 connectionRules k level =
     (10 when not (keyForNumber (k .keys) (k .mode) level .held))
-    ∷ (8 when not (k .connection .held))
+    ∷ (8 when not (connectionThere (k .connection)))
     ∷ []
 
--- a packet before it is deciphered: 7, 25, 10, 8
+-- a packet before it is deciphered: 7, 25, 10, 8, 28
 unfoldable pub packetEntryRules : Link → ℕ → List ℕ → List Rule
-packetEntryRules k room p = blockRules p room ++ connectionRules k (getD p 3 0)
+packetEntryRules k room p = blockRules p room ++ (connectionRules k (getD p 3 0) ++ (nonceRule (k .connection .memory) p ∷ []))
 
 -- its blocks deciphered
 unfoldable pub packetText : Link → List ℕ → List ℕ
@@ -73,9 +75,14 @@ characteristicWorkAfter k p work =
     judge (λ n. work) (packetEntryRules k (length work) p)
     (judge (λ n. replicate (16 * blocksIn p) 0) (packetTextRules k (getD p 3 0) (packetText k p)) (packetText k p) ++ drop (16 * blocksIn p) work)
 
--- ---- the connection session after it: no packet changes it
+-- ---- the connection session after it: where the packet passed all of 10 to 13, also when 19 to 24 refuse it later, its packet nonce is remembered
+unfoldable pub connectionAfter : Link → ℕ → List ℕ → Connection
+connectionAfter k room p =
+    judge (λ n. k .connection) (packetEntryRules k room p ++ characteristicRules (k .connection .validation) (packetText k p))
+    (connectionRemembering (k .connection) (packetNonce p))
+
 unfoldable pub characteristicOpened : Link → ℕ → List ℕ → OpenedCommand
-characteristicOpened k room p = record { answer = characteristicAnswerOf k room p; connection = k .connection }
+characteristicOpened k room p = record { answer = characteristicAnswerOf k room p; connection = connectionAfter k room p }
 
 -- ---- the opener's promise
 pub record OpensPacket (k : Link) (p work : List ℕ) (r : OpenedCommand) (after : List ℕ) : Type 0 where

@@ -1,4 +1,5 @@
--- The opener of a frame: document 01, 'Numbers given when something is refused' and the two paragraphs behind the table; no 13 (document 02 §2).
+-- The opener of a frame: document 01, 'Numbers given when something is refused' and the two paragraphs behind the table; no 13 (document 02 §2), and
+-- 28 directly after 9 (document 02 §6).
 use Prim.Native.Nat.{ℕ, _+_, _*_}
 use mathlib.Core.Path.{_≡_}
 use mathlib.Core.Bool.{Bool, true, false, not, _||_}
@@ -14,11 +15,11 @@ use Rattle.message.specs.Reading.{messageRules, messageAt, tableContent}
 use Rattle.message.specs.declared.Form.the-variants.{Plain, Encrypted}
 use Rattle.message.specs.declared.Message.{Message}
 use Rattle.message.specs.declared.Message.the-variants.{Hello, SessionNonce, Heartbeat, Status, GetMac, Control, HubReply}
-use Rattle.session.specs.Session.{withNonce, validAt}
+use Rattle.session.specs.Session.{sessionThere, withNonce, validAt, sessionRemembering}
 use Rattle.session.specs.Keys.{keyFor}
 use Rattle.session.specs.declared.Key.{Key}
 use Rattle.session.specs.declared.Session.{Session}
-use Rattle.envelope.specs.Blocks.{blocksIn, deciphered, lengthRule, roomRule}
+use Rattle.envelope.specs.Blocks.{blocksIn, deciphered, lengthRule, roomRule, packetNonce, nonceRule}
 use Rattle.envelope.specs.Sealed.{lateRules, messageIn}
 use Rattle.bridge.specs.Reply.{refusalOf}
 use Rattle.bridge.specs.Place.{placeFrom}
@@ -54,13 +55,13 @@ blockRules p room = lengthRule p ∷ roomRule p room ∷ []
 unfoldable pub sessionRules : Context → ℕ → List Rule
 sessionRules g id =
     (10 when (not (eqb id 0) || not (adminKey g .held)))
-    ∷ (8 when not (g .session .held))
+    ∷ (8 when not (sessionThere (g .session)))
     ∷ (9 when not (validAt (g .session) (g .time)))
     ∷ []
 
--- an encrypted message before it is deciphered: 7, 25, 10, 8, 9
+-- an encrypted message before it is deciphered: 7, 25, 10, 8, 9, 28
 unfoldable pub uartEntryRules : Context → ℕ → List ℕ → List Rule
-uartEntryRules g room p = blockRules p room ++ sessionRules g (getD p 3 0)
+uartEntryRules g room p = blockRules p room ++ (sessionRules g (getD p 3 0) ++ (nonceRule (g .session .memory) p ∷ []))
 
 -- the blocks of an encrypted message deciphered
 unfoldable pub uartText : Context → List ℕ → List ℕ
@@ -86,7 +87,8 @@ answerOf g room major wrapper p =
     judge (λ n. Refused (refusalOf n)) (uartOpenRules g room major wrapper p)
     (pick (eqb wrapper 128) (acceptedMessage true 6 (messageIn (uartText g p))) (acceptedMessage false 0 p))
 
--- ---- the session after it: only an accepted session nonce message changes it
+-- ---- the session after it
+-- a plain message: only an accepted session nonce message changes it
 abbrev pub sessionBy : Context → Message → Session
 sessionBy g (Hello flags) = g .session
 sessionBy g (SessionNonce f) =
@@ -97,15 +99,18 @@ sessionBy g GetMac = g .session
 sessionBy g (Control c) = g .session
 sessionBy g (HubReply f) = g .session
 
-abbrev pub sessionAfter : Context → Answer → Session
-sessionAfter g (Accepted m at) = sessionBy g m
-sessionAfter g (Refused r) = g .session
+-- an encrypted message, never a session nonce (16): where it passed all of 10 to 12, also when 14 to 24 refuse it later, its packet nonce is remembered
+unfoldable pub sessionAfter : Context → ℕ → ℕ → ℕ → List ℕ → Session
+sessionAfter g room major wrapper p =
+    pick (eqb wrapper 128)
+    (judge (λ n. g .session) (headRules major wrapper ++ (uartEntryRules g room p ++ lateRules (uartText g p))) (sessionRemembering (g .session) (packetNonce p)))
+    (judge (λ n. g .session) (headRules major wrapper ++ plainRules g p) (sessionBy g (messageAt p)))
 
 unfoldable pub opened : Context → ℕ → ℕ → ℕ → List ℕ → Opened
 opened g room major wrapper p =
-    record { answer = answerOf g room major wrapper p; session = sessionAfter g (answerOf g room major wrapper p) }
+    record { answer = answerOf g room major wrapper p; session = sessionAfter g room major wrapper p }
 
--- ---- the work buffer after it: refusals 5 to 10 and 25, and a plain message, touch nothing; an encrypted message refused later leaves the
+-- ---- the work buffer after it: refusals 5 to 10, 25 and 28, and a plain message, touch nothing; an encrypted message refused later leaves the
 -- first 16n bytes zero, an accepted one leaves them deciphered; all other bytes stay
 unfoldable pub workAfter : Context → ℕ → ℕ → List ℕ → List ℕ → List ℕ
 workAfter g major wrapper p work =

@@ -5,20 +5,27 @@ use mathlib.Core.List.{List, _++_}
 use lib.ListN.{length, drop, replicate}
 use Rattle.wire.specs.Rules.{Rule, judge}
 use Rattle.message.specs.Message.{partsAt}
+use Rattle.message.specs.Reading.{messageAt}
 use Rattle.message.specs.declared.MessageRead.{MessageRead}
 use Rattle.message.specs.declared.MessageRead.the-variants.{Accepted as ReadAccepted, Refused as ReadRefused}
 use Rattle.control.specs.declared.ControlRead.{ControlRead}
 use Rattle.control.specs.declared.ControlRead.the-variants.{Accepted as ControlAccepted, Refused as ControlRefused}
-use Rattle.envelope.specs.Blocks.{blocksIn, cleared}
-use Rattle.envelope.specs.Sealed.{messageIn}
+use Rattle.session.specs.Session.{sessionRemembering, connectionRemembering}
+use Rattle.session.specs.declared.Session.{Session}
+use Rattle.session.specs.declared.Connection.{Connection}
+use Rattle.envelope.specs.Blocks.{blocksIn, packetNonce, cleared}
+use Rattle.envelope.specs.Sealed.{lateRules, messageIn}
+use Rattle.envelope.specs.Characteristic.{characteristicRules}
 use Rattle.bridge.specs.Reply.{refusalOf, characteristicRefusal}
 use Rattle.bridge.specs.Place.{placeFrom}
-use Rattle.bridge.specs.Opener.{plainRules, uartEntryRules, uartTextRules, uartText, acceptedMessage}
+use Rattle.bridge.specs.Opener.{plainRules, uartEntryRules, uartTextRules, uartText, acceptedMessage, sessionBy}
 use Rattle.bridge.specs.Characteristic.{acceptedCommand, packetTextRules}
 use Rattle.bridge.specs.declared.Context.{Context}
 use Rattle.bridge.specs.declared.Link.{Link}
 use Rattle.bridge.specs.declared.Answer.{Answer}
 use Rattle.bridge.specs.declared.Answer.the-variants.{Accepted, Refused}
+use Rattle.bridge.specs.declared.Opened.{Opened}
+use Rattle.bridge.specs.declared.OpenedCommand.{OpenedCommand}
 use Rattle.bridge.specs.declared.CommandAnswer.{CommandAnswer}
 use Rattle.bridge.specs.declared.CommandAnswer.the-variants.{Accepted as CommandAccepted, Refused as CommandRefused}
 
@@ -30,15 +37,41 @@ abbrev pub answerBy : Bool → ℕ → ℕ → MessageRead → Answer
 answerBy inWork start end (ReadAccepted m) = Accepted m (placeFrom inWork (start + (2 + partsAt m)) end)
 answerBy inWork start end (ReadRefused n) = refusedAnswer n
 
--- a plain message; what an encrypted one deciphered to; an encrypted one
+-- a plain message; what an encrypted one deciphered to; an encrypted one: the answer, and the session after it
 unfoldable pub plainAnswer : Context → List ℕ → Answer
 plainAnswer g p = judge refusedAnswer (plainRules g p) (acceptedMessage false 0 p)
+
+-- by the answer
+abbrev pub sessionByAnswer : Context → Answer → Session
+sessionByAnswer g (Accepted m at) = sessionBy g m
+sessionByAnswer g (Refused r) = g .session
 
 unfoldable pub textAnswer : Context → List ℕ → Answer
 textAnswer g text = judge refusedAnswer (uartTextRules g text) (acceptedMessage true 6 (messageIn text))
 
 unfoldable pub sealedAnswer : Context → ℕ → List ℕ → Answer
 sealedAnswer g room p = judge refusedAnswer (uartEntryRules g room p) (textAnswer g (uartText g p))
+
+unfoldable pub plainSession : Context → List ℕ → Session
+plainSession g p = judge (λ n. g .session) (plainRules g p) (sessionBy g (messageAt p))
+
+unfoldable pub textSession : Context → ℕ → List ℕ → Session
+textSession g nonce text = judge (λ n. g .session) (lateRules text) (sessionRemembering (g .session) nonce)
+
+unfoldable pub sealedSession : Context → ℕ → List ℕ → Session
+sealedSession g room p = judge (λ n. g .session) (uartEntryRules g room p) (textSession g (packetNonce p) (uartText g p))
+
+abbrev pub openedAs : Answer → Session → Opened
+openedAs a s = record { answer = a; session = s }
+
+abbrev pub plainOpened : Context → List ℕ → Opened
+plainOpened g p = openedAs (plainAnswer g p) (plainSession g p)
+
+abbrev pub textOpened : Context → ℕ → List ℕ → Opened
+textOpened g nonce text = openedAs (textAnswer g text) (textSession g nonce text)
+
+abbrev pub sealedOpened : Context → ℕ → List ℕ → Opened
+sealedOpened g room p = openedAs (sealedAnswer g room p) (sealedSession g room p)
 
 -- what is left of n blocks by the rules of what they deciphered to, before the bytes that stay
 abbrev pub blocksAfter : ℕ → List Rule → List ℕ → List ℕ → List ℕ
@@ -65,6 +98,16 @@ commandAnswerBy end (ControlRefused n) = refusedCommand n
 -- what a packet deciphered to
 unfoldable pub commandTextAnswer : Link → ℕ → List ℕ → CommandAnswer
 commandTextAnswer k level text = judge refusedCommand (packetTextRules k level text) (acceptedCommand text)
+
+-- the connection session after what a packet deciphered to
+unfoldable pub textConnection : Link → ℕ → List ℕ → Connection
+textConnection k nonce text = judge (λ n. k .connection) (characteristicRules (k .connection .validation) text) (connectionRemembering (k .connection) nonce)
+
+abbrev pub openedCommandAs : CommandAnswer → Connection → OpenedCommand
+openedCommandAs a c = record { answer = a; connection = c }
+
+abbrev pub commandTextOpened : Link → ℕ → ℕ → List ℕ → OpenedCommand
+commandTextOpened k level nonce text = openedCommandAs (commandTextAnswer k level text) (textConnection k nonce text)
 
 abbrev pub commandWorkBy : ℕ → List ℕ → CommandAnswer → List ℕ
 commandWorkBy n work (CommandAccepted c at) = work

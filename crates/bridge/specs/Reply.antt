@@ -50,7 +50,7 @@ replies =
     ∷ (24 gets code 33)
     ∷ []
 
--- on the UART; 25 and every other number get none
+-- on the UART; 25, 28 and every other number get none
 unfoldable pub entryOf : ℕ → Entry
 entryOf n = lookup numberIn entryIn noReply replies n
 

@@ -28,7 +28,7 @@ fn connection_refusal(link: Link, level: u8) -> u8
     let key = keys.serving_number(mode, level);
     if key.held {
         let connection = link.connection;
-        if connection.held {
+        if connection.is_there() {
             return 0;
         }
         return 8;
@@ -36,7 +36,7 @@ fn connection_refusal(link: Link, level: u8) -> u8
     10
 }
 
-// What is refused of a packet before it is deciphered: 7, 25, 10, 8, or 0.
+// What is refused of a packet before it is deciphered: 7, 25, 10, 8, 28, or 0.
 fn entry_refusal(packet: &[u8], room: usize, link: Link) -> u8
     ensures { λ r. ⌜ r ≡ firstBroken (specs.packetEntryRules link room (now (packet .entry))) ⌝ }
 {
@@ -44,7 +44,13 @@ fn entry_refusal(packet: &[u8], room: usize, link: Link) -> u8
     if early != 0 {
         return early;
     }
-    connection_refusal(link, wire::byte_at(packet, 3))
+    let number = connection_refusal(link, wire::byte_at(packet, 3));
+    if number != 0 {
+        return number;
+    }
+    let connection = link.connection;
+    let memory = connection.memory;
+    envelope::judge_nonce(memory, packet)
 }
 
 // A level's access.
@@ -85,22 +91,33 @@ fn end_of(packet: &[u8]) -> usize
     4 + packet.len()
 }
 
-// What a packet deciphered to: 11, 18, 13, 19 to 24, or the command.
-fn read_text(text: &[u8], level: u8, link: Link) -> CommandAnswer
-    ensures { λ a. ⌜ a ≡ opening.commandTextAnswer link level (now (text .entry)) ⌝ }
+// A refusal leaves the connection session.
+fn refused(number: u8, link: Link) -> OpenedCommand
+    ensures { λ r. ⌜ r ≡ record { answer = opening.refusedCommand number; connection = link .connection } ⌝ }
 {
+    let answer = CommandAnswer::Refused(characteristic_refusal(number));
     let connection = link.connection;
-    let validation = connection.validation;
+    OpenedCommand { answer, connection }
+}
+
+// What a packet deciphered to: 11, 18, 13, 19 to 24, or the command; and the connection session after it, which remembers the packet nonce unless 11, 18 or 13 is given.
+fn read_text(text: &[u8], level: u8, link: Link, packet_nonce: u32) -> OpenedCommand
+    ensures { λ r. ⌜ r ≡ opening.commandTextOpened link level «packet_nonce» (now (text .entry)) ⌝ }
+{
+    let old = link.connection;
+    let validation = old.validation;
     let late = envelope::judge_characteristic(validation, text);
     if late != 0 {
-        return CommandAnswer::Refused(characteristic_refusal(late));
+        return refused(late, link);
     }
     let packet = envelope::packet_in(text);
     let mode = link.mode;
-    answer_by(
+    let answer = answer_by(
         end_of(packet),
         control::read_control(packet, mode, access_for(level)),
-    )
+    );
+    let connection = old.remember(packet_nonce);
+    OpenedCommand { answer, connection }
 }
 
 // The blocks of a packet into the work buffer, which has room for them.
@@ -127,28 +144,24 @@ fn clear_refused(answer: CommandAnswer, work: &mut [u8], n: usize)
     }
 }
 
-// A packet's answer.
-fn open_packet(packet: &[u8], link: Link, work: &mut [u8]) -> CommandAnswer
-    ensures { λ a. ⌜ (a ≡ specs.characteristicAnswerOf link (length (now (work .entry))) (now (packet .entry)))
-        × (now (work .exit) ≡ specs.characteristicWorkAfter link (now (packet .entry)) (now (work .entry))) ⌝ }
-{
-    let early = entry_refusal(packet, work.len(), link);
-    if early != 0 {
-        return CommandAnswer::Refused(characteristic_refusal(early));
-    }
-    decipher(packet, link, work);
-    let n = packet.len() - 4;
-    let blocks = Part { start: 0, len: n };
-    let answer = read_text(wire::part_of(work, blocks), wire::byte_at(packet, 3), link);
-    clear_refused(answer, work, n);
-    answer
-}
-
 // Opens a characteristic packet: the command and where its payload lies, or the refusal with its reply; and the connection session after it.
 pub fn open(packet: &[u8], link: Link, work: &mut [u8]) -> OpenedCommand
     ensures { λ r. ⌜ specs.OpensPacket link (now (packet .entry)) (now (work .entry)) r (now (work .exit)) ⌝ }
 {
-    let answer = open_packet(packet, link, work);
-    let connection = link.connection;
-    OpenedCommand { answer, connection }
+    let early = entry_refusal(packet, work.len(), link);
+    if early != 0 {
+        return refused(early, link);
+    }
+    decipher(packet, link, work);
+    let n = packet.len() - 4;
+    let blocks = Part { start: 0, len: n };
+    let opened = read_text(
+        wire::part_of(work, blocks),
+        wire::byte_at(packet, 3),
+        link,
+        envelope::packet_nonce(packet),
+    );
+    let answer = opened.answer;
+    clear_refused(answer, work, n);
+    opened
 }

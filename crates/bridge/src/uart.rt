@@ -39,8 +39,9 @@ fn session_by(context: Context, m: Message) -> Session
     }
 }
 
+// The session after a plain message, by its answer.
 fn session_after(context: Context, answer: Answer) -> Session
-    ensures { λ s. ⌜ s ≡ specs.sessionAfter context answer ⌝ }
+    ensures { λ s. ⌜ s ≡ opening.sessionByAnswer context answer ⌝ }
 {
     match answer {
         Answer::Accepted(m, _) => session_by(context, m),
@@ -82,23 +83,34 @@ fn answer_by(in_work: bool, start: usize, end: usize, read: MessageRead) -> Answ
     }
 }
 
-// A plain message: 7, 14 to 24, or the message.
-fn open_plain(payload: &[u8], context: Context) -> Answer
-    ensures { λ a. ⌜ a ≡ opening.plainAnswer context (now (payload .entry)) ⌝ }
+// A refusal leaves the session.
+fn refused(number: u8, context: Context) -> Opened
+    ensures { λ r. ⌜ r ≡ record { answer = opening.refusedAnswer number; session = context .session } ⌝ }
+{
+    let answer = Answer::Refused(refusal(number));
+    let session = context.session;
+    Opened { answer, session }
+}
+
+// A plain message: 7, 14 to 24, or the message; and the session after it.
+fn open_plain(payload: &[u8], context: Context) -> Opened
+    ensures { λ r. ⌜ r ≡ opening.plainOpened context (now (payload .entry)) ⌝ }
 {
     if payload.len() < 2 {
-        return Answer::Refused(refusal(7));
+        return refused(7, context);
     }
     if 507 < payload.len() {
-        return Answer::Refused(refusal(7));
+        return refused(7, context);
     }
     let mode = context.mode;
-    answer_by(
+    let answer = answer_by(
         false,
         0,
         payload.len(),
         message::read_message(payload, Form::Plain, context.required, mode),
-    )
+    );
+    let session = session_after(context, answer);
+    Opened { answer, session }
 }
 
 // 10, 8 and 9, or 0.
@@ -113,7 +125,7 @@ fn session_refusal(context: Context, id: u8) -> u8
     let key = keys.serving(mode, Level::Admin);
     if key.held {
         let session = context.session;
-        if session.held {
+        if session.is_there() {
             if session.valid_at(context.time) {
                 return 0;
             }
@@ -124,7 +136,7 @@ fn session_refusal(context: Context, id: u8) -> u8
     10
 }
 
-// What is refused of an encrypted message before it is deciphered: 7, 25, 10, 8, 9, or 0.
+// What is refused of an encrypted message before it is deciphered: 7, 25, 10, 8, 9, 28, or 0.
 fn entry_refusal(payload: &[u8], room: usize, context: Context) -> u8
     ensures { λ r. ⌜ r ≡ firstBroken (specs.uartEntryRules context room (now (payload .entry))) ⌝ }
 {
@@ -132,7 +144,13 @@ fn entry_refusal(payload: &[u8], room: usize, context: Context) -> u8
     if early != 0 {
         return early;
     }
-    session_refusal(context, wire::byte_at(payload, 3))
+    let number = session_refusal(context, wire::byte_at(payload, 3));
+    if number != 0 {
+        return number;
+    }
+    let session = context.session;
+    let memory = session.memory;
+    envelope::judge_nonce(memory, payload)
 }
 
 // Where a message ends that stands behind CAFEBABE and its size.
@@ -143,22 +161,25 @@ fn end_of(m: &[u8]) -> usize
     6 + m.len()
 }
 
-// What an encrypted message deciphered to: 11, 12, 14 to 24, or the message.
-fn read_text(text: &[u8], context: Context) -> Answer
-    ensures { λ a. ⌜ a ≡ opening.textAnswer context (now (text .entry)) ⌝ }
+// What an encrypted message deciphered to: 11, 12, 14 to 24, or the message; and the session after it, which remembers the packet nonce unless 11 or 12 is given.
+fn read_text(text: &[u8], context: Context, packet_nonce: u32) -> Opened
+    ensures { λ r. ⌜ r ≡ opening.textOpened context «packet_nonce» (now (text .entry)) ⌝ }
 {
     let late = envelope::judge_text(text);
     if late != 0 {
-        return Answer::Refused(refusal(late));
+        return refused(late, context);
     }
     let m = envelope::message_in(text);
     let mode = context.mode;
-    answer_by(
+    let answer = answer_by(
         true,
         6,
         end_of(m),
         message::read_message(m, Form::Encrypted, context.required, mode),
-    )
+    );
+    let old = context.session;
+    let session = old.remember(packet_nonce);
+    Opened { answer, session }
 }
 
 // The blocks of an encrypted message into the work buffer, which has room for them.
@@ -186,37 +207,25 @@ fn clear_refused(answer: Answer, work: &mut [u8], n: usize)
 }
 
 // An encrypted message.
-fn open_sealed(payload: &[u8], context: Context, work: &mut [u8]) -> Answer
-    ensures { λ a. ⌜ (a ≡ opening.sealedAnswer context (length (now (work .entry))) (now (payload .entry)))
+fn open_sealed(payload: &[u8], context: Context, work: &mut [u8]) -> Opened
+    ensures { λ r. ⌜ (r ≡ opening.sealedOpened context (length (now (work .entry))) (now (payload .entry)))
         × (now (work .exit) ≡ opening.sealedWork context (now (payload .entry)) (now (work .entry))) ⌝ }
 {
     let early = entry_refusal(payload, work.len(), context);
     if early != 0 {
-        return Answer::Refused(refusal(early));
+        return refused(early, context);
     }
     decipher(payload, context, work);
     let n = payload.len() - 4;
     let blocks = Part { start: 0, len: n };
-    let answer = read_text(wire::part_of(work, blocks), context);
+    let opened = read_text(
+        wire::part_of(work, blocks),
+        context,
+        envelope::packet_nonce(payload),
+    );
+    let answer = opened.answer;
     clear_refused(answer, work, n);
-    answer
-}
-
-// A frame's answer.
-fn open_frame(major: u8, wrapper: u8, payload: &[u8], context: Context, work: &mut [u8]) -> Answer
-    ensures { λ a. ⌜ (a ≡ specs.answerOf context (length (now (work .entry))) major wrapper (now (payload .entry)))
-        × (now (work .exit) ≡ specs.workAfter context major wrapper (now (payload .entry)) (now (work .entry))) ⌝ }
-{
-    if major != 1 {
-        return Answer::Refused(refusal(5));
-    }
-    if wrapper == 128 {
-        return open_sealed(payload, context, work);
-    }
-    if wrapper != 0 {
-        return Answer::Refused(refusal(6));
-    }
-    open_plain(payload, context)
+    opened
 }
 
 // Opens a frame: the message and where its payload lies, or the refusal with its reply; and the session after it. Any minor is accepted.
@@ -230,7 +239,14 @@ pub fn open(
 ) -> Opened
     ensures { λ r. ⌜ specs.OpensFrame context major wrapper (now (payload .entry)) (now (work .entry)) r (now (work .exit)) ⌝ }
 {
-    let answer = open_frame(major, wrapper, payload, context, work);
-    let session = session_after(context, answer);
-    Opened { answer, session }
+    if major != 1 {
+        return refused(5, context);
+    }
+    if wrapper == 128 {
+        return open_sealed(payload, context, work);
+    }
+    if wrapper != 0 {
+        return refused(6, context);
+    }
+    open_plain(payload, context)
 }

@@ -7,6 +7,7 @@ use Rattle.control.specs.declared.Command.{Command}
 use Rattle.control.specs.declared.Command.the-variants as command
 use Rattle.message.specs.declared.Message.{Message}
 use Rattle.message.specs.declared.Message.the-variants as message
+use Rattle.session.specs.Memory.{emptyMemory}
 use Rattle.session.specs.Keys.{noKey}
 use Rattle.bridge.specs.declared.Context.{Context}
 use Rattle.bridge.specs.declared.Answer.{Answer}
@@ -47,11 +48,11 @@ abbrev pub packedAnswer : Answer → ℕ
 packedAnswer (Accepted m place) = packedMessage m
 packedAnswer (Refused r) = r .number
 
--- normal mode, the admin key alone held, encryption not required
+-- normal mode, the admin key alone held, encryption not required, no packet nonce remembered
 abbrev pub contextOf : List ℕ → List ℕ → ℕ → ℕ → ℕ → Context
 contextOf key nonce minutes since time =
     record {
-      session = record { held = true; nonce = nonce; timeout = record { 0 = minutes }; since = record { 0 = since } };
+      session = record { held = true; nonce = nonce; timeout = record { 0 = minutes }; since = record { 0 = since }; memory = emptyMemory };
       time = record { 0 = time };
       keys = record { admin = record { held = true; bytes = key }; member = noKey; basic = noKey; setup = noKey };
       mode = Normal;

@@ -6,6 +6,7 @@ use control::Command;
 use message::Message;
 use session::Key;
 use session::Keys;
+use session::NonceMemory;
 use session::Session;
 use units::Minutes;
 use units::Seconds;
@@ -82,6 +83,7 @@ fn packed_answer(a: Answer) -> u64
     }
 }
 
+// A session that remembers no packet nonce.
 fn context(key: [u8; 16], nonce: [u8; 5], minutes: u64, since: u64, time: u64) -> Context
     ensures { λ r. ⌜ r ≡ contextOf key nonce minutes since time ⌝ }
 {
@@ -91,6 +93,7 @@ fn context(key: [u8; 16], nonce: [u8; 5], minutes: u64, since: u64, time: u64) -
             nonce,
             timeout: Minutes(minutes),
             since: Seconds(since),
+            memory: NonceMemory::empty(),
         },
         time: Seconds(time),
         keys: Keys {
@@ -107,7 +110,7 @@ fn context(key: [u8; 16], nonce: [u8; 5], minutes: u64, since: u64, time: u64) -
     }
 }
 
-// Opens the first bytes of a payload as an encrypted message.
+// Opens the first bytes of a payload as an encrypted message. What the session remembers after it is not handed out: each call has a fresh one.
 #[no_mangle]
 pub extern "C" fn cloudgraze_open(
     key: &[u8; 16],

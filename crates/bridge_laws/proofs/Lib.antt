@@ -6,3 +6,5 @@ pub mod Padding
 pub mod PaddingExample
 pub mod Connected
 pub mod ConnectedExample
+pub mod Stays
+pub mod Replay

@@ -39,7 +39,7 @@ admin-normal k Setup e = true-false (sym e)
 entered-normal : (g : Context) (room : ℕ) (p : List ℕ) → firstBroken (uartEntryRules g room p) ≡ 0 → g .mode ≡ Normal
 unfolding uartEntryRules sessionRules
 entered-normal g room p e =
-    let h = held (uartEntryRules g room p) (tt, (tt, (tt, (tt, (tt, tt))))) e in
+    let h = held (uartEntryRules g room p) (tt, (tt, (tt, (tt, (tt, (tt, tt)))))) e in
     admin-normal (g .keys) (g .mode) (not-false _ (or-fails (not (eqb (getD p 3 0) 0)) (not (adminKey g .held)) (h .1 .1 .0) .1))
 
 module _ (g : Context) (room : ℕ) (p : List ℕ) where

@@ -15,24 +15,24 @@ use Rattle.wire.proofs.Rules.{first-append, judge-pass}
 use Rattle.message.specs.Reading.{messageRules, tableContent}
 use Rattle.message.specs.declared.Form.the-variants.{Encrypted}
 use Rattle.aes.specs.Ctr.{blocksFor}
-use Rattle.envelope.specs.Blocks.{blocksIn, wrongLength}
+use Rattle.envelope.specs.Blocks.{blocksIn, wrongLength, packetNonce}
 use Rattle.envelope.specs.Sealed.{unpadded, plainText, sealedImage, sealedWith, lateRules, messageIn}
-use Rattle.envelope.proofs.Envelopes.{length-enveloped, id-enveloped, deciphered-enveloped}
+use Rattle.envelope.proofs.Envelopes.{length-enveloped, number-enveloped, id-enveloped, deciphered-enveloped}
 use Rattle.envelope.proofs.Unsealed.{length-with, size-with, late-with, message-with, zeros, zeros-fill}
 use Rattle.bridge.specs.Content.{uartGiven}
 use Rattle.bridge.specs.Opener.{adminKey, headRules, uartEntryRules, uartText, uartTextRules, uartOpenRules, acceptedMessage, answerOf, sessionAfter, opened, workAfter}
-use Rattle.bridge.specs.Opening.{refusedAnswer, blocksAfter}
+use Rattle.bridge.specs.Opening.{refusedAnswer, openedAs, blocksAfter}
 use Rattle.bridge.proofs.Contents.{opens-frame}
 use Rattle.bridge.specs.declared.Context.{Context}
-use Rattle.bridge.specs.declared.Answer.{Answer}
 use Rattle.bridge_laws.specs.Accepts.{AcceptsFrame}
 use Rattle.bridge_laws.specs.Padding.{Fills, paddedWith, contentGiven, OpensAsOurs, PermittedMessage, ComesThrough, AnyPadding}
 use Rattle.bridge_laws.proofs.Accepts.{rules-clear}
 
--- a frame is judged before it is deciphered by its length and its fourth byte
-same-entry : (g : Context) (room : ℕ) (p q : List ℕ) → length p ≡ length q → getD p 3 0 ≡ getD q 3 0 → uartEntryRules g room p ≡ uartEntryRules g room q
+-- a frame is judged before it is deciphered by its length, its fourth byte and its packet nonce
+same-entry : (g : Context) (room : ℕ) (p q : List ℕ) → length p ≡ length q → getD p 3 0 ≡ getD q 3 0 → packetNonce p ≡ packetNonce q
+    → uartEntryRules g room p ≡ uartEntryRules g room q
 unfolding uartEntryRules wrongLength
-same-entry g room p q e d = rw (e, d)
+same-entry g room p q e d n = rw (e, d, n)
 
 -- the work buffer after a list of rules before n blocks are deciphered, and one behind it
 abbrev left : ℕ → List Rule → List Rule → List ℕ → List ℕ → List ℕ
@@ -69,6 +69,10 @@ module _ (g : Context) (pn m : List ℕ) (three-bytes : length pn ≡ 3) where
     unfolding sealedWith
     id-padded = id-enveloped key pn sn 0 (unpadded m ++ padding) three-bytes
 
+    nonce-padded : packetNonce p ≡ packetNonce pn
+    unfolding sealedWith
+    nonce-padded = number-enveloped key pn sn 0 (unpadded m ++ padding) three-bytes
+
     text-padded : uartText g p ≡ unpadded m ++ padding
     unfolding uartText sealedWith
     text-padded = deciphered-enveloped key pn sn 0 (unpadded m ++ padding) three-bytes
@@ -93,13 +97,19 @@ module _ (g : Context) (pn m : List ℕ) (three-bytes : length pn ≡ 3) where
     same-message : messageIn (uartText g pa) ≡ messageIn (uartText g pb)
     same-message = message-padded a fills-a ∙ sym (message-padded b fills-b)
 
+    same-nonce : packetNonce pa ≡ packetNonce pb
+    same-nonce = nonce-padded a fills-a ∙ sym (nonce-padded b fills-b)
+
+    same-late : lateRules (uartText g pa) ≡ lateRules (uartText g pb)
+    same-late = late-padded a fills-a ∙ sym (late-padded b fills-b)
+
     before : (room : ℕ) → uartEntryRules g room pa ≡ uartEntryRules g room pb
-    before room = same-entry g room pa pb same-length (id-padded a fills-a ∙ sym (id-padded b fills-b))
+    before room = same-entry g room pa pb same-length (id-padded a fills-a ∙ sym (id-padded b fills-b)) same-nonce
 
     behind : uartTextRules g (uartText g pa) ≡ uartTextRules g (uartText g pb)
     unfolding uartTextRules
     behind =
-        ap₂ (λ (xs : List Rule) (l : List ℕ). xs ++ messageRules Encrypted (g .required) (g .mode) l) (late-padded a fills-a ∙ sym (late-padded b fills-b)) same-message
+        ap₂ (λ (xs : List Rule) (l : List ℕ). xs ++ messageRules Encrypted (g .required) (g .mode) l) same-late same-message
 
     same-rules : (room major : ℕ) → uartOpenRules g room major 128 pa ≡ uartOpenRules g room major 128 pb
     unfolding uartOpenRules
@@ -110,9 +120,13 @@ module _ (g : Context) (pn m : List ℕ) (three-bytes : length pn ≡ 3) where
     same-answer room major =
         ap₂ (λ (rs : List Rule) (l : List ℕ). judge refusedAnswer rs (acceptedMessage true 6 l)) (same-rules room major) same-message
 
+    same-session : (room major : ℕ) → sessionAfter g room major 128 pa ≡ sessionAfter g room major 128 pb
+    unfolding sessionAfter
+    same-session room major = rw (before room, same-late, same-nonce)
+
     same-opened : (room major : ℕ) → opened g room major 128 pa ≡ opened g room major 128 pb
     unfolding opened
-    same-opened room major = ap (λ (x : Answer). record { answer = x; session = sessionAfter g x }) (same-answer room major)
+    same-opened room major = ap₂ openedAs (same-answer room major) (same-session room major)
 
     same-content : (major : ℕ) (work : List ℕ) → contentGiven g major pa work ≡ contentGiven g major pb work
     same-content major work =
@@ -145,7 +159,7 @@ module _ (g : Context) (pn m : List ℕ) (three-bytes : length pn ≡ 3) where
       }
 
   -- ---- a message that may come through
-  module _ (padding : List ℕ) (fills : Fills m padding) (ok : PermittedMessage g m) where
+  module _ (padding : List ℕ) (fills : Fills m padding) (ok : PermittedMessage g pn m) where
     abbrev q : List ℕ
     q = paddedWith g pn m padding
 
@@ -166,6 +180,7 @@ module _ (g : Context) (pn m : List ℕ) (three-bytes : length pn ≡ 3) where
             key = ok .key;
             session = ok .session;
             valid = ok .valid;
+            fresh = rw (nonce-padded padding fills) (ok .fresh);
             validation = rw (text-padded padding fills) refl;
             size = rw (text-padded padding fills, size-with m padding fills) (ok .message .typed);
             least = rw (text-padded padding fills, size-with m padding fills) (length-with m padding fills);

@@ -10,7 +10,8 @@ use Rattle.wire.specs.Content.{accepted, content}
 use Rattle.access.specs.declared.Mode.the-variants.{Normal}
 use Rattle.message.specs.declared.Form.the-variants.{Encrypted}
 use Rattle.message.proofs.Accepts.{message-accepts}
-use Rattle.session.specs.Session.{validAt}
+use Rattle.session.specs.Memory.{emptyMemory, inLimits, remembered}
+use Rattle.session.specs.Session.{sessionThere, validAt}
 use Rattle.session.specs.Keys.{noKey}
 use Rattle.envelope.specs.Blocks.{blocksIn}
 use Rattle.envelope.specs.Sealed.{unpadded, sealedWith}
@@ -24,7 +25,7 @@ use Rattle.bridge_laws.proofs.Padding.{any-padding}
 abbrev g : Context
 g =
     record {
-      session = record { held = true; nonce = replicate 5 1; timeout = record { 0 = 1 }; since = record { 0 = 100 } };
+      session = record { held = true; nonce = replicate 5 1; timeout = record { 0 = 1 }; since = record { 0 = 100 }; memory = emptyMemory };
       time = record { 0 = 159 };
       keys = record { admin = record { held = true; bytes = replicate 16 1 }; member = noKey; basic = noKey; setup = noKey };
       mode = Normal;
@@ -55,10 +56,10 @@ fills-none = refl
 fills-15 : Fills (11 ∷ 0 ∷ replicate 9 7) (replicate 15 0xFF)
 fills-15 = refl
 
-permitted : PermittedMessage g setState
-unfolding validAt
+permitted : PermittedMessage g pn setState
+unfolding sessionThere validAt inLimits remembered
 permitted =
-    record { key = refl; session = refl; valid = refl; most = omega arith; message = message-accepts Encrypted true Normal setState refl }
+    record { key = refl; session = refl; valid = refl; fresh = refl; most = omega arith; message = message-accepts Encrypted true Normal setState refl }
 
 abbrev work : List ℕ
 work = replicate 33 0xEE

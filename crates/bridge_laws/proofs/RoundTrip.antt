@@ -22,7 +22,7 @@ use Rattle.session.specs.Keys.{keyFor, keyForRead}
 use Rattle.session.specs.declared.Key.{Key}
 use Rattle.envelope.specs.Blocks.{outside, sealerRules, blocksIn}
 use Rattle.envelope.specs.Characteristic.{characteristicText, characteristicRules, packetIn}
-use Rattle.envelope.proofs.Unsealed.{characteristic-level, characteristic-unsealed, characteristic-whole, late-text, packet-text}
+use Rattle.envelope.proofs.Unsealed.{characteristic-number, characteristic-level, characteristic-unsealed, characteristic-whole, late-text, packet-text}
 use Rattle.bridge.specs.Place.{placeFrom}
 use Rattle.bridge.specs.Characteristic.{levelKey, connectionRules, packetEntryRules, packetText, packetTextRules, packetOpenRules, acceptedCommand, characteristicAnswerOf, characteristicOpened}
 use Rattle.bridge_laws.specs.RoundTrip.{SealablePacket, packetSealed, OpensAgain}
@@ -72,6 +72,8 @@ module _ (k : Link) (level : Level) (pn packet : List ℕ) (s : SealablePacket k
         key-is,
         s .key,
         s .connection,
+        characteristic-number (key .bytes) pn (k .connection .nonce) (levelNumber level) v packet (s .three),
+        s .fresh,
       )
 
   reads : firstBroken (packetTextRules k (getD p 3 0) (packetText k p)) ≡ 0

@@ -1,4 +1,5 @@
 -- A command comes through exactly when framing, checksum, session, key, mode, access and payload all permit it: demand 2's conditions, one by one.
+-- Document 02 §6 counts one more rule among those that must permit: refuse a packet nonce used again.
 -- Framing and checksum are the receiver's; proofs/Accepts.antt proves that the openers accept exactly when the rest hold.
 use Prim.Native.Nat.{ℕ, _+_, _*_, _≤_}
 use mathlib.Core.Path.{_≡_}
@@ -7,14 +8,16 @@ use mathlib.Core.Bool.{Bool, true, false}
 use mathlib.Core.List.{List}
 use lib.ListN.{length, getD, take, drop}
 use Rattle.wire.specs.Numbers.{num}
+use Rattle.wire.specs.Rules.{among}
 use Rattle.aes.specs.Ctr.{blocksFor}
 use Rattle.access.specs.Level.{levelOf}
 use Rattle.control.specs.Accepts.{Accepts}
 use Rattle.message.specs.Accepts.{AcceptsMessage}
 use Rattle.message.specs.declared.Form.the-variants.{Plain, Encrypted}
-use Rattle.session.specs.Session.{validAt}
+use Rattle.session.specs.Memory.{remembered}
+use Rattle.session.specs.Session.{sessionThere, validAt, connectionThere}
 use Rattle.session.specs.Keys.{keyForNumber}
-use Rattle.envelope.specs.Blocks.{blocksIn}
+use Rattle.envelope.specs.Blocks.{blocksIn, packetNonce}
 use Rattle.envelope.specs.Sealed.{messageSize, messageIn}
 use Rattle.envelope.specs.Characteristic.{packetSize, allZero, packetIn}
 use Rattle.bridge.specs.Opener.{adminKey, uartText}
@@ -53,8 +56,10 @@ pub record AcceptsSealed (g : Context) (room : ℕ) (p : List ℕ) : Type 0 wher
   pub id : getD p 3 0 ≡ 0
   pub key : adminKey g .held ≡ true
   -- a session, which has not run out
-  pub session : g .session .held ≡ true
+  pub session : sessionThere (g .session) ≡ true
   pub valid : validAt (g .session) (g .time) ≡ true
+  -- the packet nonce is none of those remembered
+  pub fresh : among (packetNonce p) (remembered (g .session .memory)) ≡ false
   -- of the blocks deciphered: validation, message size, n the least; of the padding nothing
   pub validation : num 4 0 (uartText g p) ≡ 0xCAFEBABE
   pub size : 2 ≤ messageSize (uartText g p)
@@ -72,7 +77,9 @@ pub record AcceptsPacket (k : Link) (room : ℕ) (p : List ℕ) : Type 0 where
   pub blocks : AcceptsBlocks p room
   -- the key of its level held in this mode
   pub key : keyForNumber (k .keys) (k .mode) (getD p 3 0) .held ≡ true
-  pub session : k .connection .held ≡ true
+  pub session : connectionThere (k .connection) ≡ true
+  -- the packet nonce is none of those remembered
+  pub fresh : among (packetNonce p) (remembered (k .connection .memory)) ≡ false
   -- of the blocks deciphered: the connection's validation key, n the least, zero padding
   pub validation : take 4 (packetText k p) ≡ k .connection .validation
   pub least : length (packetText k p) ≡ 16 * blocksFor (4 + packetSize (packetText k p))

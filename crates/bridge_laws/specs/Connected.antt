@@ -2,9 +2,10 @@
 -- The statement; proofs/Connected.antt proves it, for every level.
 use Prim.Native.Nat.{ℕ, _≤_}
 use mathlib.Core.Path.{_≡_}
-use mathlib.Core.Bool.{true}
+use mathlib.Core.Bool.{true, false}
 use mathlib.Core.List.{List}
 use lib.ListN.{length}
+use Rattle.wire.specs.Rules.{among}
 use Rattle.aes.specs.Inverse.{SixteenBytes}
 use Rattle.access.specs.Level.{levelNumber}
 use Rattle.access.specs.declared.Access.the-variants.{Keyed}
@@ -12,7 +13,9 @@ use Rattle.access.specs.declared.Level.{Level}
 use Rattle.control.specs.Control.{commandAt, readControl}
 use Rattle.control.specs.declared.ControlRead.the-variants.{Accepted}
 use Rattle.session.specs.Keys.{keyFor}
+use Rattle.session.specs.Memory.{remembered}
 use Rattle.session.specs.Session.{withData}
+use Rattle.envelope.specs.Blocks.{packetNonce}
 use Rattle.envelope.specs.Characteristic.{characteristicImage}
 use Rattle.session_data.specs.SessionData.{dataKey, dataImage, dataRead}
 use Rattle.session_data.specs.RoundTrip.{Sized}
@@ -27,12 +30,14 @@ blockFor k nonce validation = dataImage (dataKey (k .keys) (k .mode) .bytes) non
 abbrev pub linkAfter : Link → List ℕ → Link
 linkAfter k block = record { connection = dataRead (dataKey (k .keys) (k .mode)) (k .connection) block .connection; keys = k .keys; mode = k .mode }
 
--- both keys are there, the packet nonce has 3 bytes, and the reader accepts the packet from that level; of the old connection nothing is asked
+-- both keys are there, the packet nonce is none of those that the connection remembers after the block and has 3 bytes, and the reader accepts the packet
+-- from that level; of the old connection nothing else is asked
 pub record Connectable (k : Link) (level : Level) (nonce validation pn packet : List ℕ) : Type 0 where
   pub data-key : dataKey (k .keys) (k .mode) .held ≡ true
   pub data-bytes : SixteenBytes (dataKey (k .keys) (k .mode) .bytes)
   pub sized : Sized nonce validation
   pub key : keyFor (k .keys) (k .mode) level .held ≡ true
+  pub fresh : among (packetNonce pn) (remembered (withData (k .connection) nonce validation .memory)) ≡ false
   pub three : length pn ≡ 3
   pub most : length packet ≤ 492
   pub read : readControl packet (k .mode) (Keyed level) ≡ Accepted (commandAt packet)

@@ -3,3 +3,4 @@ pub mod RoundTrip
 pub mod Assembled
 pub mod Padding
 pub mod Connected
+pub mod Replay

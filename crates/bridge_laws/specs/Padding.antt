@@ -2,16 +2,17 @@
 -- statement, `AnyPadding`; proofs/Padding.antt proves it for every context.
 use Prim.Native.Nat.{ℕ, _*_, _≤_}
 use mathlib.Core.Path.{_≡_}
-use mathlib.Core.Bool.{true}
+use mathlib.Core.Bool.{true, false}
 use mathlib.Core.List.{List, _++_}
 use lib.ListN.{length, drop}
-use Rattle.wire.specs.Rules.{judge}
+use Rattle.wire.specs.Rules.{judge, among}
 use Rattle.wire.specs.Content.{Judged, Content, accepted}
 use Rattle.message.specs.Accepts.{AcceptsMessage}
 use Rattle.message.specs.Reading.{tableContent}
 use Rattle.message.specs.declared.Form.the-variants.{Encrypted}
-use Rattle.session.specs.Session.{validAt}
-use Rattle.envelope.specs.Blocks.{paddingFor, blocksIn}
+use Rattle.session.specs.Memory.{remembered}
+use Rattle.session.specs.Session.{sessionThere, validAt}
+use Rattle.envelope.specs.Blocks.{paddingFor, blocksIn, packetNonce}
 use Rattle.envelope.specs.Sealed.{unpadded, sealedImage, sealedWith}
 use Rattle.bridge.specs.Content.{Given, answerContent}
 use Rattle.bridge.specs.Opener.{adminKey, uartOpenRules, opened, workAfter}
@@ -44,11 +45,12 @@ pub record OpensAsOurs (g : Context) (major : ℕ) (pn m padding : List ℕ) : T
       ((unpadded m ++ padding) ++ drop (16 * blocksIn (paddedWith g pn m padding)) work)
 
 -- ---- a message that may come through
--- demand 2's conditions, framing aside: key, session, length; data type, form, mode, access and payload
-pub record PermittedMessage (g : Context) (m : List ℕ) : Type 0 where
+-- demand 2's conditions, framing aside: key, session, a packet nonce that is not remembered, length; data type, form, mode, access and payload
+pub record PermittedMessage (g : Context) (pn m : List ℕ) : Type 0 where
   pub key : adminKey g .held ≡ true
-  pub session : g .session .held ≡ true
+  pub session : sessionThere (g .session) ≡ true
   pub valid : validAt (g .session) (g .time) ≡ true
+  pub fresh : among (packetNonce pn) (remembered (g .session .memory)) ≡ false
   pub most : length m ≤ 490
   pub message : AcceptsMessage Encrypted (g .required) (g .mode) m
 
@@ -62,5 +64,5 @@ pub record ComesThrough (g : Context) (pn m padding work : List ℕ) : Type 0 wh
 pub record AnyPadding (g : Context) : Type 0 where
   pub same : (major : ℕ) (pn m padding : List ℕ) → length pn ≡ 3 → Fills m padding → OpensAsOurs g major pn m padding
   pub through :
-      (pn m padding work : List ℕ) → length pn ≡ 3 → Fills m padding → PermittedMessage g m → 16 * blocksIn (paddedWith g pn m padding) ≤ length work
+      (pn m padding work : List ℕ) → length pn ≡ 3 → Fills m padding → PermittedMessage g pn m → 16 * blocksIn (paddedWith g pn m padding) ≤ length work
       → ComesThrough g pn m padding work

@@ -2,9 +2,10 @@
 -- The statement; proofs/RoundTrip.antt proves it, for every level.
 use Prim.Native.Nat.{ℕ, _+_, _*_, _≤_}
 use mathlib.Core.Path.{_≡_}
-use mathlib.Core.Bool.{true}
+use mathlib.Core.Bool.{true, false}
 use mathlib.Core.List.{List}
 use lib.ListN.{length, take}
+use Rattle.wire.specs.Rules.{among}
 use Rattle.wire.specs.Content.{accepted}
 use Rattle.wire.specs.declared.Written.{Written}
 use Rattle.wire.specs.declared.Written.the-variants.{Wrote}
@@ -14,7 +15,9 @@ use Rattle.access.specs.declared.Level.{Level}
 use Rattle.control.specs.Control.{commandAt, readControl, controlContent}
 use Rattle.control.specs.declared.ControlRead.the-variants.{Accepted}
 use Rattle.session.specs.Keys.{keyFor}
-use Rattle.envelope.specs.Blocks.{outside, Seals, blocksIn}
+use Rattle.session.specs.Memory.{remembered}
+use Rattle.session.specs.Session.{connectionThere}
+use Rattle.envelope.specs.Blocks.{outside, Seals, blocksIn, packetNonce}
 use Rattle.envelope.specs.Characteristic.{characteristicImage}
 use Rattle.bridge.specs.Place.{placeFrom}
 use Rattle.bridge.specs.Content.{commandAnswerContent}
@@ -22,10 +25,12 @@ use Rattle.bridge.specs.Characteristic.{characteristicOpened, characteristicWor
 use Rattle.bridge.specs.declared.Link.{Link}
 use Rattle.bridge.specs.declared.CommandAnswer.the-variants.{Accepted as CommandAccepted}
 
--- key and connection are there, the packet nonce has 3 bytes and the validation key 4, and the reader accepts the packet from that level
+-- key and connection are there, the packet nonce is none of those that the connection remembers and has 3 bytes, the validation key has 4, and the reader
+-- accepts the packet from that level
 pub record SealablePacket (k : Link) (level : Level) (pn packet : List ℕ) : Type 0 where
   pub key : keyFor (k .keys) (k .mode) level .held ≡ true
-  pub connection : k .connection .held ≡ true
+  pub connection : connectionThere (k .connection) ≡ true
+  pub fresh : among (packetNonce pn) (remembered (k .connection .memory)) ≡ false
   pub three : length pn ≡ 3
   pub four : length (k .connection .validation) ≡ 4
   pub most : length packet ≤ 492

@@ -1,12 +1,14 @@
 // A list of messages, plain and sealed, end to end: sealed, framed, with noise between, received byte by byte by a receiver that is
 // caught inside an unfinished frame, and opened in order, each with the session that the last one left. Then packets of a phone, sealed and
-// opened at each level. Standard input lists them, an item each: NAME|KIND|NUMBERS|BYTES.
+// opened at each level, each with the connection session that the last one left. Some are sent again: a packet nonce that is remembered gets 28.
+// Standard input lists them, an item each: NAME|KIND|NUMBERS|BYTES.
 // Kinds: n bytes as they are, p a plain message, s a message sealed for the first or the second session under a packet nonce's number;
 // r the line is received; c a phone's packet with its level, mode and number.
 mod opening;
 mod phone;
 
 use access::Mode;
+use session::Connection;
 use session::Key;
 use session::Keys;
 use text::reading;
@@ -25,33 +27,55 @@ fn main() {
     io::write_all(1, b"end\n");
 }
 
+// Where the line ends, and the phone's connection session.
+struct After {
+    at: usize,
+    connection: Connection,
+}
+
 fn items(s: &[u8]) {
     let mut line = [0u8; 8192];
-    let mut at: usize = 0;
+    let mut after = After {
+        at: 0,
+        connection: phone::connection(),
+    };
     let n = reading::count(s, b'\n');
     let mut k: usize = 0;
     while k < n {
-        at = item(&mut line, at, reading::field(s, b'\n', k));
+        let next = item(&mut line, after, reading::field(s, b'\n', k));
+        after = next;
         k += 1;
     }
 }
 
-// What an item puts on the line from a place on; the place behind it.
-fn item(line: &mut [u8], at: usize, s: &[u8]) -> usize {
+fn item(line: &mut [u8], before: After, s: &[u8]) -> After {
     let mut room = [0u8; 512];
     let n = reading::bytes(&mut room, 0, reading::field(s, b'|', 3));
     let bytes = wire::part_of(&room, Part { start: 0, len: n });
     let v = reading::field(s, b'|', 2);
-    match wire::byte_at(reading::field(s, b'|', 1), 0) {
+    let kind = wire::byte_at(reading::field(s, b'|', 1), 0);
+    let connection = before.connection;
+    if kind == b'c' {
+        let next = phone::packet(v, bytes, connection);
+        return After {
+            at: before.at,
+            connection: next,
+        };
+    }
+    After {
+        at: on_line(line, before.at, kind, v, bytes),
+        connection,
+    }
+}
+
+// What an item puts on the line from a place on; the place behind it.
+fn on_line(line: &mut [u8], at: usize, kind: u8, v: &[u8], bytes: &[u8]) -> usize {
+    match kind {
         b'n' => text::put(line, at, bytes),
         b'p' => framed(line, at, 0, bytes),
         b's' => sealed(line, at, v, bytes),
         b'r' => {
             opening::receive(wire::part_of(line, Part { start: 0, len: at }));
-            at
-        }
-        b'c' => {
-            phone::packet(v, bytes);
             at
         }
         _ => at,

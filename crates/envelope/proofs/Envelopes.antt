@@ -5,13 +5,13 @@ use mathlib.Core.List.{List, [], _∷_, _++_}
 use Prim.Native.Nat.{ℕ, _+_, _-_, _*_, _≤_, _<_}
 use native.Mathlib.Omega.{arith}
 use lib.ListN.{length, getD, take, drop, replicate, length-append, length-replicate, length-drop}
-use lib.Seq.{take-at, drop-at, getD-at, drop-drop}
+use lib.Seq.{take-at, drop-at, getD-at, getD-take, drop-drop}
 use borrow.Author.Tests.{le-ltb, eq-eqb}
 use Rattle.wire.proofs.Lists.{nil-of}
 use Rattle.wire.proofs.Fields.{to-end}
 use Rattle.aes.specs.Ctr.{blocksFor, ctrOf}
 use Rattle.aes.proofs.KeyStream.{length-ctr, ctr-twice}
-use Rattle.envelope.specs.Blocks.{paddingFor, padded, enveloped, blocksIn, deciphered, wrongLength}
+use Rattle.envelope.specs.Blocks.{paddingFor, padded, enveloped, blocksIn, deciphered, wrongLength, packetNonce}
 use Rattle.envelope.proofs.Bytes.{three}
 
 -- `blocksFor n` blocks hold n bytes, and fewer do not
@@ -26,6 +26,10 @@ length-padded s =
     let k : ℕ = paddingFor s in
     omega (arith, length-append s (replicate k 0), length-replicate {A = ℕ} k 0)
 
+-- a packet nonce is that of the first three bytes
+number-front : (s : List ℕ) → packetNonce (take 3 s) ≡ packetNonce s
+number-front s = rw (getD-take 3 s 0 0 (omega arith), getD-take 3 s 1 0 (omega arith), getD-take 3 s 2 0 (omega arith))
+
 module _ (key pn sn : List ℕ) (id : ℕ) (text : List ℕ) (three-bytes : length pn ≡ 3) where
   pub length-enveloped : length (enveloped key pn sn id text) ≡ 4 + length text
   unfolding enveloped
@@ -34,6 +38,9 @@ module _ (key pn sn : List ℕ) (id : ℕ) (text : List ℕ) (three-bytes : leng
   pub nonce-enveloped : take 3 (enveloped key pn sn id text) ≡ pn
   unfolding enveloped
   nonce-enveloped = take-at pn (id ∷ ctrOf key pn sn text) 3 three-bytes
+
+  pub number-enveloped : packetNonce (enveloped key pn sn id text) ≡ packetNonce pn
+  number-enveloped = sym (number-front (enveloped key pn sn id text)) ∙ ap packetNonce nonce-enveloped
 
   pub id-enveloped : getD (enveloped key pn sn id text) 3 0 ≡ id
   unfolding enveloped

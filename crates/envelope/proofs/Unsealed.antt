@@ -1,40 +1,28 @@
 -- Unsealing undoes sealing, and equal images come of equal packet nonces and messages. No byte needs a bound. Assumes nothing.
-use mathlib.Core.Path.{_≡_, refl, sym, ap, ap₂, _∙_}
+use mathlib.Core.Path.{_≡_, refl, sym, ap, _∙_}
 use mathlib.Core.Bool.{Bool, true, false, _||_}
 use mathlib.Core.List.{List, [], _∷_, _++_, append-assoc, append-nil}
 use Prim.Native.Nat.{ℕ, zero, suc, _+_, _-_, _*_, _≤_, _<_}
 use native.Mathlib.Omega.{arith}
 use lib.ListN.{length, getD, take, drop, replicate, length-append, length-replicate, List·getD-append}
 use lib.Seq.{take-at, drop-at, getD-append-add, getD-drop, getD-take}
-use lib.Dec.{eqb, ltb}
-use borrow.Author.Tests.{le-ltb, eq-eqb, eqb-true}
-use Rattle.wire.proofs.Choice.{true-false, and-holds}
+use lib.Dec.{ltb}
+use borrow.Author.Tests.{le-ltb, eq-eqb}
 use Rattle.wire.proofs.Held.{held}
+use Rattle.wire.proofs.Same.{same-self}
 use Rattle.wire.specs.Numbers.{num}
 use Rattle.wire.specs.Choice.{pick}
 use Rattle.wire.specs.Rules.{_when_, firstBroken}
 use Rattle.aes.specs.Ctr.{blocksFor}
-use Rattle.envelope.specs.Blocks.{paddingFor, padded, blocksIn, deciphered, wrongLength, notLeast}
+use Rattle.envelope.specs.Blocks.{paddingFor, padded, blocksIn, packetNonce, deciphered, wrongLength, notLeast}
 use Rattle.envelope.specs.Sealed.{unpadded, plainText, sealedImage, messageSize, messageMisfit, lateRules, messageIn}
-use Rattle.envelope.specs.Characteristic.{characteristicText, characteristicImage, sameBytes, packetSize, allZero, characteristicRules, packetIn}
-use Rattle.envelope.proofs.Envelopes.{length-padded, length-enveloped, nonce-enveloped, id-enveloped, deciphered-enveloped, same-enveloped, whole-padded}
+use Rattle.envelope.specs.Characteristic.{characteristicText, characteristicImage, packetSize, allZero, characteristicRules, packetIn}
+use Rattle.envelope.proofs.Envelopes.{length-padded, length-enveloped, nonce-enveloped, number-enveloped, id-enveloped, deciphered-enveloped, same-enveloped, whole-padded}
 use Rattle.envelope.proofs.Misfit.{least-blocks, length-within, size-fits, message-fits, packet-fits}
 
 or-none : (b : Bool) → (b || false) ≡ b
 or-none true = refl
 or-none false = refl
-
-pub same-self : (s : List ℕ) → sameBytes s s ≡ true
-same-self [] = refl
-same-self (a ∷ s) = rw (eq-eqb a a refl) (same-self s)
-
-pub same-bytes : (s t : List ℕ) → sameBytes s t ≡ true → s ≡ t
-same-bytes [] [] e = refl
-same-bytes [] (b ∷ t) e = true-false (sym e)
-same-bytes (a ∷ s) [] e = true-false (sym e)
-same-bytes (a ∷ s) (b ∷ t) e =
-    let h = and-holds (eqb a b) (sameBytes s t) e in
-    ap₂ (λ (x : ℕ) (l : List ℕ). x ∷ l) (eqb-true a b (h .0)) (same-bytes s t (h .1))
 
 -- ---- the encrypted wrapper payload
 -- a message's bytes with any padding that fills up to the least number of blocks
@@ -116,6 +104,10 @@ module _ (key pn sn m : List ℕ) (three-bytes : length pn ≡ 3) where
   pub sealed-nonce : take 3 (sealedImage key pn sn m) ≡ pn
   unfolding sealedImage
   sealed-nonce = nonce-enveloped key pn sn 0 (plainText m) three-bytes
+
+  pub sealed-number : packetNonce (sealedImage key pn sn m) ≡ packetNonce pn
+  unfolding sealedImage
+  sealed-number = number-enveloped key pn sn 0 (plainText m) three-bytes
 
   pub sealed-id : getD (sealedImage key pn sn m) 3 0 ≡ 0
   unfolding sealedImage
@@ -232,6 +224,10 @@ module _ (key pn sn : List ℕ) (level : ℕ) (v p : List ℕ) (three-bytes : le
   pub characteristic-nonce : take 3 (characteristicImage key pn sn level v p) ≡ pn
   unfolding characteristicImage
   characteristic-nonce = nonce-enveloped key pn sn level (characteristicText v p) three-bytes
+
+  pub characteristic-number : packetNonce (characteristicImage key pn sn level v p) ≡ packetNonce pn
+  unfolding characteristicImage
+  characteristic-number = number-enveloped key pn sn level (characteristicText v p) three-bytes
 
   pub characteristic-level : getD (characteristicImage key pn sn level v p) 3 0 ≡ level
   unfolding characteristicImage

@@ -4,11 +4,14 @@ use mathlib.Core.Bool.{Bool, not, _||_}
 use mathlib.Core.List.{List, [], _∷_, _++_}
 use lib.ListN.{length, take, drop, replicate}
 use lib.Dec.{eqb, ltb}
-use Rattle.wire.specs.Rules.{Rule, _when_}
+use Rattle.wire.specs.Numbers.{num}
+use Rattle.wire.specs.Rules.{Rule, _when_, among}
 use Rattle.wire.specs.Writing.{Stores, noRoom}
 use Rattle.wire.specs.declared.Written.{Written}
 use Rattle.aes.specs.Ctr.{blocksFor, ctrOf}
+use Rattle.session.specs.Memory.{remembered}
 use Rattle.session.specs.declared.Key.{Key}
+use Rattle.session.specs.declared.NonceMemory.{NonceMemory}
 
 -- ---- sealing
 -- how many bytes of padding: to the least number of blocks that holds the bytes
@@ -52,6 +55,14 @@ lengthRule payload = 7 when wrongLength payload
 -- 25: opening needs a work buffer of 16n bytes
 abbrev pub roomRule : List ℕ → ℕ → Rule
 roomRule payload room = 25 when ltb room (16 * blocksIn payload)
+
+-- the packet nonce, as one number
+abbrev pub packetNonce : List ℕ → ℕ
+packetNonce payload = num 3 0 payload
+
+-- 28 (document 02 §6): the packet nonce is one that is remembered
+abbrev pub nonceRule : NonceMemory → List ℕ → Rule
+nonceRule memory payload = 28 when among (packetNonce payload) (remembered memory)
 
 -- the blocks are not the least number that holds so many bytes
 unfoldable pub notLeast : List ℕ → ℕ → Bool

@@ -1,12 +1,13 @@
 -- Document 01, 'Cipher and session': the characteristic packet.
 use Prim.Native.Nat.{ℕ, _+_}
-use mathlib.Core.Bool.{Bool, true, false, not, _&&_}
+use mathlib.Core.Bool.{Bool, true, not, _&&_}
 use mathlib.Core.List.{List, [], _∷_, _++_}
 use lib.ListN.{take, drop}
 use lib.Dec.{eqb}
 use Rattle.wire.specs.Choice.{pick}
 use Rattle.wire.specs.Numbers.{num}
 use Rattle.wire.specs.Rules.{Rule, _when_}
+use Rattle.wire.specs.Same.{sameBytes}
 use Rattle.envelope.specs.Blocks.{padded, enveloped, notLeast}
 
 -- ---- sealing
@@ -19,12 +20,6 @@ unfoldable pub characteristicImage : List ℕ → List ℕ → List ℕ → ℕ 
 characteristicImage key pn sn level validation packet = enveloped key pn sn level (characteristicText validation packet)
 
 -- ---- opening
-abbrev pub sameBytes : List ℕ → List ℕ → Bool
-sameBytes [] [] = true
-sameBytes [] (b ∷ t) = false
-sameBytes (a ∷ s) [] = false
-sameBytes (a ∷ s) (b ∷ t) = eqb a b && sameBytes s t
-
 -- the packet's bytes by its own size field, which stands behind the validation key, the protocol and the command type
 abbrev pub packetSize : List ℕ → ℕ
 packetSize text = 5 + num 2 7 text

@@ -1,5 +1,6 @@
 // Blocks deciphered into a work buffer and judged. Each judge gives the number of the first rule that is broken, 0 where none is.
 use crate::outside;
+use session::NonceMemory;
 use wire::Part;
 use wire::Written;
 ghost use mathlib.Core.Path.{_≡_};
@@ -7,10 +8,11 @@ ghost use mathlib.Core.List.{_∷_, []};
 ghost use Prim.Native.Nat.{_≤_, min};
 ghost use lib.ListN.{take, drop};
 ghost use Rattle.wire.specs.Rules.{firstBroken};
+ghost use Rattle.wire.specs.Same.{sameBytes};
 ghost use Rattle.wire.specs.Writing.{Stores, noRoom};
-ghost use Rattle.envelope.specs.Blocks.{blocksIn, deciphered, lengthRule, roomRule, notLeast, cleared};
+ghost use Rattle.envelope.specs.Blocks.{blocksIn, deciphered, lengthRule, roomRule, packetNonce, nonceRule, notLeast, cleared};
 ghost use Rattle.envelope.specs.Sealed.{messageSize, messageMisfit, lateRules, messageIn};
-ghost use Rattle.envelope.specs.Characteristic.{sameBytes, packetSize, packetMisfit, allZero, characteristicRules, packetIn};
+ghost use Rattle.envelope.specs.Characteristic.{packetSize, packetMisfit, allZero, characteristicRules, packetIn};
 
 // 7, of an encrypted wrapper payload or a characteristic packet.
 pub fn judge_length(payload: &[u8]) -> u8
@@ -42,6 +44,23 @@ pub fn judge_room(payload: &[u8], room: usize) -> u8
 {
     if room < 16 * blocks_in(payload) {
         return 25;
+    }
+    0
+}
+
+// The packet nonce, as one number.
+pub fn packet_nonce(payload: &[u8]) -> u32
+    ensures { λ r. ⌜ r ≡ packetNonce (now (payload .entry)) ⌝ }
+{
+    (wire::read_u16(payload, 0) as u32) + 65536 * (wire::byte_at(payload, 2) as u32)
+}
+
+// 28, by the packet nonces that are remembered.
+pub fn judge_nonce(memory: NonceMemory, payload: &[u8]) -> u8
+    ensures { λ r. ⌜ r ≡ firstBroken (nonceRule memory (now (payload .entry)) ∷ []) ⌝ }
+{
+    if memory.holds(packet_nonce(payload)) {
+        return 28;
     }
     0
 }
@@ -126,16 +145,7 @@ fn starts_with(text: &[u8], front: [u8; 4]) -> bool
     if text.len() < 4 {
         return false;
     }
-    if text[0] != front[0] {
-        return false;
-    }
-    if text[1] != front[1] {
-        return false;
-    }
-    if text[2] != front[2] {
-        return false;
-    }
-    text[3] == front[3]
+    wire::same_bytes(&text[0..4], &front)
 }
 
 // Whether the blocks are not the least number that holds so many bytes.

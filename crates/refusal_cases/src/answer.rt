@@ -94,21 +94,25 @@ fn told(out: &mut [u8], at: usize, given: &[u8], after: &[u8]) -> usize {
 }
 
 pub fn session(out: &mut [u8], at: usize, given: &[u8], s: Session) -> usize {
-    let mut room = [0u8; 96];
+    let mut room = [0u8; 192];
     let nonce = s.nonce;
     let timeout = s.timeout;
     let since = s.since;
+    let memory = s.memory;
     let named = text::hex(&mut room, 0, &nonce);
-    let len = text::decimals(&mut room, named, &[timeout.0, since.0, s.held as u64]);
+    let held = text::decimals(&mut room, named, &[timeout.0, since.0, s.held as u64]);
+    let len = session_text::memory(&mut room, held, memory);
     told(out, at, given, wire::part_of(&room, Part { start: 0, len }))
 }
 
 pub fn connection(out: &mut [u8], at: usize, given: &[u8], c: Connection) -> usize {
-    let mut room = [0u8; 96];
+    let mut room = [0u8; 192];
     let nonce = c.nonce;
     let validation = c.validation;
+    let memory = c.memory;
     let named = text::hex(&mut room, 0, &nonce);
     let valid = bytes(&mut room, named, b" ", &validation);
-    let len = text::decimals(&mut room, valid, &[c.held as u64]);
+    let held = text::decimals(&mut room, valid, &[c.held as u64]);
+    let len = session_text::memory(&mut room, held, memory);
     told(out, at, given, wire::part_of(&room, Part { start: 0, len }))
 }

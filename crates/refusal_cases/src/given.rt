@@ -52,6 +52,7 @@ fn session(s: &[u8]) -> Session {
         nonce: nonce(reading::field(s, b' ', 0)),
         timeout: Minutes(reading::number(reading::field(s, b' ', 1))),
         since: Seconds(reading::number(reading::field(s, b' ', 2))),
+        memory: session_text::memory_in(s, 4),
     }
 }
 
@@ -72,6 +73,7 @@ fn connection(s: &[u8]) -> Connection {
         held: reading::number(reading::field(s, b' ', 2)) == 1,
         nonce: nonce(reading::field(s, b' ', 0)),
         validation,
+        memory: session_text::memory_in(s, 3),
     }
 }
 

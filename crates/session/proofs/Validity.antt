@@ -8,7 +8,7 @@ use lib.Dec.{ltb}
 use borrow.Author.Tests.{ltb-true, ltb-false, le-leb, lt-leb, lt-ltb, le-ltb}
 use Rattle.units.specs.declared.Seconds.{Seconds}
 use Rattle.session.specs.declared.Session.{Session}
-use Rattle.session.specs.Session.{noSession, withNonce, validAt}
+use Rattle.session.specs.Session.{noSession, sessionThere, memoryAfter, withNonce, validAt}
 
 -- x seconds hold fewer than t whole minutes where they are fewer than 60 t
 whole-minutes : (x t : ℕ) → ltb (x / 60) t ≡ ltb x (60 * t)
@@ -34,16 +34,16 @@ module _ (s : Session) (now : Seconds) where
   -- a clock behind the set time counts as run out
   pub behind : now .0 < s .since .0 → false ≡ validAt s now
   unfolding validAt
-  behind h = rw (lt-leb _ _ h) (sym (and-false (s .held)))
+  behind h = rw (lt-leb _ _ h) (sym (and-false (sessionThere s)))
 
   -- the test in whole minutes: it decides, and then whether there is a session
   pub run-out : s .since .0 ≤ now .0 → s .timeout .0 ≤ (now .0 - s .since .0) / 60 → false ≡ validAt s now
   unfolding validAt
-  run-out h k = rw (le-leb _ _ h, ← whole-minutes (now .0 - s .since .0) (s .timeout .0), le-ltb _ _ k) (sym (and-false (s .held)))
+  run-out h k = rw (le-leb _ _ h, ← whole-minutes (now .0 - s .since .0) (s .timeout .0), le-ltb _ _ k) (sym (and-false (sessionThere s)))
 
-  pub not-run-out : s .since .0 ≤ now .0 → (now .0 - s .since .0) / 60 < s .timeout .0 → s .held ≡ validAt s now
+  pub not-run-out : s .since .0 ≤ now .0 → (now .0 - s .since .0) / 60 < s .timeout .0 → sessionThere s ≡ validAt s now
   unfolding validAt
-  not-run-out h k = rw (le-leb _ _ h, ← whole-minutes (now .0 - s .since .0) (s .timeout .0), lt-ltb _ _ k) (sym (and-true (s .held)))
+  not-run-out h k = rw (le-leb _ _ h, ← whole-minutes (now .0 - s .since .0) (s .timeout .0), lt-ltb _ _ k) (sym (and-true (sessionThere s)))
 
 -- ---- set at 100, 1 minute
 abbrev set-at-100 : Session
@@ -51,13 +51,13 @@ set-at-100 =
     withNonce noSession (1 ∷ 2 ∷ 3 ∷ 4 ∷ 5 ∷ []) (record { 0 = 1 }) (record { 0 = 100 })
 
 at-159 : validAt set-at-100 (record { 0 = 159 }) ≡ true
-unfolding validAt
+unfolding validAt sessionThere memoryAfter
 at-159 = refl
 
 at-160 : validAt set-at-100 (record { 0 = 160 }) ≡ false
-unfolding validAt
+unfolding validAt sessionThere memoryAfter
 at-160 = refl
 
 at-99 : validAt set-at-100 (record { 0 = 99 }) ≡ false
-unfolding validAt
+unfolding validAt sessionThere memoryAfter
 at-99 = refl

@@ -1,12 +1,22 @@
-// Sessions, connection sessions, keys and which of them serves a level in a mode.
+// Sessions, connection sessions and the packet nonces that they remember; keys and which of them serves a level in a mode.
+mod memory;
+
 use access::Level;
 use access::LevelRead;
 use access::Mode;
 use units::Minutes;
 use units::Seconds;
 ghost use mathlib.Core.Path.{_≡_};
-ghost use Rattle.session.specs.Session.{noSession, withNonce, wholeMinutes, validAt, noConnection, withData};
+ghost use Rattle.session.specs.Session.{memoryAfter, noSession, sessionThere, withNonce, wholeMinutes, validAt, sessionRemembering, noConnection, connectionThere, withData, connectionRemembering};
 ghost use Rattle.session.specs.Keys.{noKey, keyFor, keyForNumber};
+
+// The packet nonces of the last encrypted messages, each a number of three bytes.
+pub struct NonceMemory {
+    // How many are remembered, 0 to 8.
+    pub count: usize,
+    // Newest first.
+    pub nonces: [u32; 8],
+}
 
 // The user's session: held is false where there is none.
 pub struct Session {
@@ -14,6 +24,7 @@ pub struct Session {
     pub nonce: [u8; 5],
     pub timeout: Minutes,
     pub since: Seconds,
+    pub memory: NonceMemory,
 }
 
 // A connection session, which does not run out.
@@ -21,6 +32,7 @@ pub struct Connection {
     pub held: bool,
     pub nonce: [u8; 5],
     pub validation: [u8; 4],
+    pub memory: NonceMemory,
 }
 
 // A key that may be absent.
@@ -43,6 +55,19 @@ fn whole_minutes(t: Seconds) -> Minutes
     Minutes(t.0 / 60)
 }
 
+// The memory after an accepted session nonce: kept where it equals the one held, else empty.
+fn memory_after(there: bool, held: [u8; 5], memory: NonceMemory, nonce: [u8; 5]) -> NonceMemory
+    ensures { λ r. ⌜ r ≡ memoryAfter there held memory nonce ⌝ }
+{
+    if there {
+        if wire::same_bytes(&held, &nonce) {
+            return memory;
+        }
+        return NonceMemory::empty();
+    }
+    NonceMemory::empty()
+}
+
 impl Session {
     pub fn none() -> Session
         ensures { λ r. ⌜ r ≡ noSession ⌝ }
@@ -52,18 +77,32 @@ impl Session {
             nonce: [0; 5],
             timeout: Minutes(0),
             since: Seconds(0),
+            memory: NonceMemory::empty(),
         }
+    }
+
+    // Whether there is one, run out or not. One whose memory's count lies outside its limits is none.
+    pub fn is_there(self) -> bool
+        ensures { λ r. ⌜ r ≡ sessionThere self ⌝ }
+    {
+        if self.held {
+            let memory = self.memory;
+            return memory.fits();
+        }
+        false
     }
 
     // The session after a session nonce message is accepted.
     pub fn with_nonce(self, nonce: [u8; 5], timeout: Minutes, now: Seconds) -> Session
         ensures { λ r. ⌜ r ≡ withNonce self nonce timeout now ⌝ }
     {
+        let old = self.nonce;
         Session {
             held: true,
             nonce: nonce,
             timeout: timeout,
             since: now,
+            memory: memory_after(self.is_there(), old, self.memory, nonce),
         }
     }
 
@@ -78,9 +117,29 @@ impl Session {
         }
         let passed = whole_minutes(Seconds(now.0 - since.0));
         if passed.0 < timeout.0 {
-            return self.held;
+            return self.is_there();
         }
         false
+    }
+
+    // The session after an encrypted message that passed all of 10 to 13: its packet nonce is remembered.
+    pub fn remember(self, packet_nonce: u32) -> Session
+        ensures { λ r. ⌜ r ≡ sessionRemembering self «packet_nonce» ⌝ }
+    {
+        if self.is_there() {
+            let nonce = self.nonce;
+            let timeout = self.timeout;
+            let since = self.since;
+            let memory = self.memory;
+            return Session {
+                held: true,
+                nonce,
+                timeout,
+                since,
+                memory: memory.remember(packet_nonce),
+            };
+        }
+        self
     }
 }
 
@@ -92,18 +151,50 @@ impl Connection {
             held: false,
             nonce: [0; 5],
             validation: [0; 4],
+            memory: NonceMemory::empty(),
         }
+    }
+
+    // Whether there is one. One whose memory's count lies outside its limits is none.
+    pub fn is_there(self) -> bool
+        ensures { λ r. ⌜ r ≡ connectionThere self ⌝ }
+    {
+        if self.held {
+            let memory = self.memory;
+            return memory.fits();
+        }
+        false
     }
 
     // The connection session after session data is accepted.
     pub fn with_data(self, nonce: [u8; 5], validation: [u8; 4]) -> Connection
         ensures { λ r. ⌜ r ≡ withData self nonce validation ⌝ }
     {
+        let old = self.nonce;
         Connection {
             held: true,
             nonce: nonce,
             validation: validation,
+            memory: memory_after(self.is_there(), old, self.memory, nonce),
         }
+    }
+
+    // The connection session after a packet that passed all of 10 to 13: its packet nonce is remembered.
+    pub fn remember(self, packet_nonce: u32) -> Connection
+        ensures { λ r. ⌜ r ≡ connectionRemembering self «packet_nonce» ⌝ }
+    {
+        if self.is_there() {
+            let nonce = self.nonce;
+            let validation = self.validation;
+            let memory = self.memory;
+            return Connection {
+                held: true,
+                nonce,
+                validation,
+                memory: memory.remember(packet_nonce),
+            };
+        }
+        self
     }
 }
 

@@ -1,6 +1,8 @@
 // Reads and writes session data, a case for each line of standard input, whose fields stand between bars: `read`, a name, the mode, the keys held (AMBS with
 // - for one that is absent), `held` or `none`, nonce and validation key of the connection that was there, the block; or `write`, a name, mode, keys, how many
-// bytes EE are lent as room, nonce and validation key. Prints the answer and the connection after it, or all of the room and what was written read back.
+// bytes EE are lent as room, nonce and validation key. Behind a connection's validation key, unless its memory is empty, stand how many packet nonces it
+// remembers and the places of eight, but for zero places at the end. Prints the answer and the connection after it, or all of the room and what was written
+// read back.
 // The stored output comes from another implementation of AES: bench/session_data/outcomes.py.
 use access::Mode;
 use libc::STDIN_FILENO;
@@ -57,11 +59,12 @@ fn connection_of(line: &[u8]) -> Connection {
     let mut nonce = [0u8; 5];
     let mut validation = [0u8; 4];
     reading::bytes(&mut nonce, 0, field(line, 5));
-    reading::bytes(&mut validation, 0, field(line, 6));
+    reading::bytes(&mut validation, 0, reading::field(field(line, 6), b' ', 0));
     Connection {
         held: check::same(field(line, 4), b"held"),
         nonce,
         validation,
+        memory: session_text::memory_in(field(line, 6), 1),
     }
 }
 
@@ -85,11 +88,13 @@ fn show_read(out: &mut [u8], at: usize, read: DataRead) -> usize {
     let after = read.connection;
     let nonce = after.nonce;
     let validation = after.validation;
+    let memory = after.memory;
     let a = show_answer(out, at, answer);
     let b = show_held(out, a, after.held);
     let c = text::hex(out, b, &nonce);
     let d = text::put(out, c, b" ");
-    text::hex(out, d, &validation)
+    let e = text::hex(out, d, &validation);
+    session_text::memory(out, e, memory)
 }
 
 fn read_case(line: &[u8], out: &mut [u8], at: usize) -> usize {
@@ -170,7 +175,7 @@ fn run(line: &[u8], out: &mut [u8]) -> usize {
 }
 
 fn main() {
-    let mut input = [0u8; 32768];
+    let mut input = [0u8; 65536];
     let n = io::read_full(STDIN_FILENO, &mut input);
     let cases = front(&input, n);
     let mut out = [0u8; 512];

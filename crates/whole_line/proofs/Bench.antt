@@ -8,7 +8,7 @@ use Rattle.frame.specs.Image.{escape, escapeByte, isMark}
 use Rattle.line.specs.Receive.{stepOf, busy, midFrame, inFrame, unescaped, taken, sized}
 use Rattle.line.specs.Line.{valueGives, escapedGives, insideGives, gives, run, after}
 use Rattle.aes.specs.Ctr.{blocksFor}
-use Rattle.session.specs.Session.{validAt}
+use Rattle.session.proofs.Kept.{nonce-valid}
 use Rattle.envelope.specs.Blocks.{blocksIn}
 use Rattle.envelope.specs.Sealed.{sealedImage}
 use Rattle.envelope.proofs.Unsealed.{sealed-blocks}
@@ -24,7 +24,7 @@ abbrev _then_ : {A B : Type 0} → A → B → A × B
 a then b = (a, b)
 
 pub bench-right : All table
-unfolding escape escapeByte isMark crcFrom crcByte crcBit run gives insideGives escapedGives valueGives after stepOf busy midFrame inFrame unescaped taken sized validAt
+unfolding escape escapeByte isMark crcFrom crcByte crcBit run gives insideGives escapedGives valueGives after stepOf busy midFrame inFrame unescaped taken sized
 bench-right =
     refl
     then refl
@@ -36,9 +36,9 @@ bench-right =
     then (refl, refl)
     then blocks 10
     then blocks 11
-    then (λ s nonce. refl)
-    then (λ s nonce. refl)
-    then (λ s nonce. refl)
+    then (λ s nonce. nonce-valid s nonce _ _ _)
+    then (λ s nonce. nonce-valid s nonce _ _ _)
+    then (λ s nonce. nonce-valid s nonce _ _ _)
     then refl
     then refl
     then refl

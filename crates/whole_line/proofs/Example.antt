@@ -15,7 +15,8 @@ use Rattle.line.specs.Line as line
 use Rattle.line.specs.Line.{refusal, frame, frameGives, valueGives, escapedGives, insideGives, gives, run, after}
 use Rattle.line.specs.declared.Receiver.{Receiver}
 use Rattle.access.specs.declared.Mode.the-variants.{Normal}
-use Rattle.session.specs.Session.{validAt}
+use Rattle.session.specs.Memory.{emptyMemory, inLimits, remembered}
+use Rattle.session.specs.Session.{sessionThere, validAt}
 use Rattle.session.specs.Keys.{noKey}
 use Rattle.aes.specs.Field.{_•_, times, xtime}
 use Rattle.aes.specs.Box.{subByte, affine, turned, inverse, powers}
@@ -28,7 +29,7 @@ use Rattle.bridge.specs.Opener.{plainRules, uartOpenRules, answerOf, opened, wo
 use Rattle.bridge.specs.Place.{payloadAt}
 use Rattle.bridge.specs.Content.{Given, answerContent}
 use Rattle.bridge.specs.declared.Context.{Context}
-use Rattle.whole_line.specs.Listed.{Item, plain, sealed, itemMessage, SentItem, items, Made, wrapped, lineOf, Occasion, Ready, Opening, openings, AllGive}
+use Rattle.whole_line.specs.Listed.{Item, plain, sealed, itemMessage, SentItem, items, Made, wrapped, lineOf, Occasion, Ready, AllDiffer, Opening, openings, AllGive}
 use Rattle.whole_line.specs.Claim.{Read}
 use Rattle.whole_line.proofs.OneWay.{no-line-two-ways}
 
@@ -36,7 +37,7 @@ use Rattle.whole_line.proofs.OneWay.{no-line-two-ways}
 abbrev pub g : Context
 g =
     record {
-      session = record { held = true; nonce = 0x7E ∷ 0x5C ∷ 0x40 ∷ 1 ∷ 2 ∷ []; timeout = record { 0 = 1 }; since = record { 0 = 100 } };
+      session = record { held = true; nonce = 0x7E ∷ 0x5C ∷ 0x40 ∷ 1 ∷ 2 ∷ []; timeout = record { 0 = 1 }; since = record { 0 = 100 }; memory = emptyMemory };
       time = record { 0 = 100 };
       keys =
           record {
@@ -80,6 +81,7 @@ abbrev at : ℕ → Occasion
 at n = record { time = record { 0 = 159 }; work = replicate 20 0xDD }
 
 made : Made g (first ∷ second ∷ third ∷ [])
+unfolding sessionThere
 made = (
   record { short = omega arith; long = omega arith; other = λ e. omega arith; clear = refl },
   ((λ e. omega arith), ((λ e. omega arith), ((λ e. omega arith), tt))),
@@ -102,8 +104,13 @@ room : 16 * blocksIn (wrapped g (third .item)) ≤ 20
 room = omega (arith, sealed-blocks (g .keys .admin .bytes) (0x7E ∷ 8 ∷ 9 ∷ []) (g .session .nonce) switch refl)
 
 ready : Ready g at 0 (items (first ∷ second ∷ third ∷ []))
-unfolding validAt
+unfolding validAt sessionThere
 ready = (tt, (tt, ((refl, room), tt)))
+
+-- the session remembers nothing at the start
+differ : AllDiffer (remembered (g .session .memory)) (items (first ∷ second ∷ third ∷ []))
+unfolding remembered inLimits
+differ = (tt, (tt, (refl, tt)))
 
 abbrev itemContents : List Item → List (Judged Content Given)
 itemContents [] = []
@@ -111,7 +118,7 @@ itemContents (i ∷ is) = accepted (tableContent (itemMessage i)) ∷ itemConten
 
 -- the claim for it
 pub reads : Read g (first ∷ second ∷ third ∷ []) (after before caught) at
-reads = no-line-two-ways g .read first (second ∷ third ∷ []) made before caught refl at ready
+reads = no-line-two-ways g .read first (second ∷ third ∷ []) made before caught refl at ready differ
 
 -- ---- and by computing alone
 -- the sealed one: packet nonce, key ID, one block (worked out with OpenSSL)

@@ -1,5 +1,5 @@
 -- One message of the list: it is written, handed out and opened as demand 3 says. Assumes nothing.
-use mathlib.Core.Path.{_≡_, refl, sym, ap, ap₂, _∙_}
+use mathlib.Core.Path.{_≡_, refl, sym, ap, ap₂, _∙_, subst}
 use mathlib.Core.Bool.{true, false}
 use mathlib.Core.List.{List, _++_}
 use Prim.Native.Nat.{ℕ, _+_, _*_, _≤_}
@@ -8,7 +8,6 @@ use lib.ListN.{length, drop, replicate}
 use lib.Seq.{take-length}
 use borrow.Author.Tests.{le-ltb}
 use Rattle.wire.specs.Rules.{firstBroken}
-use Rattle.wire.specs.Content.{accepted}
 use Rattle.wire.specs.Writing.{writerRules}
 use Rattle.wire.proofs.Lookup.{lookup-all}
 use Rattle.wire.proofs.Writers.{wrote}
@@ -19,31 +18,34 @@ use Rattle.access.specs.declared.Mode.{Mode}
 use Rattle.access.specs.declared.Mode.the-variants.{Normal}
 use Rattle.access.specs.declared.Level.the-variants.{Admin}
 use Rattle.message.specs.Table.{Row, table, noRow}
-use Rattle.message.specs.Reading.{messageRules, messageAt, messageOf, tableContent}
+use Rattle.message.specs.Reading.{messageRules, messageAt, messageOf}
 use Rattle.message.specs.declared.Form.the-variants.{Plain, Encrypted}
 use Rattle.units.specs.declared.Seconds.{Seconds}
-use Rattle.session.specs.Session.{validAt}
+use Rattle.session.specs.Memory.{remembered, inFront}
+use Rattle.session.specs.Session.{sessionThere, validAt, sessionRemembering}
 use Rattle.session.specs.Keys.{keyFor}
 use Rattle.session.specs.declared.Keys.{Keys}
+use Rattle.session.specs.declared.Session.{Session}
+use Rattle.session.proofs.Kept.{session-nonce, session-there, session-valid, session-remembers}
 use Rattle.aes.specs.Ctr.{blocksFor}
-use Rattle.envelope.specs.Blocks.{outside, sealerRules, blocksIn}
+use Rattle.envelope.specs.Blocks.{outside, sealerRules, blocksIn, packetNonce}
 use Rattle.envelope.specs.Sealed.{plainText, lateRules, messageIn}
-use Rattle.envelope.proofs.Unsealed.{sealed-id, sealed-length, sealed-whole, unsealed, late-plain, message-plain, message-behind, same-sealed}
+use Rattle.envelope.proofs.Unsealed.{sealed-number, sealed-id, sealed-length, sealed-whole, unsealed, late-plain, message-plain, message-behind, same-sealed}
 use Rattle.bridge.specs.Content.{answerContent}
-use Rattle.bridge.specs.Opener.{adminKey, sessionRules, uartEntryRules, uartText, uartTextRules, acceptedMessage, answerOf, sessionBy, sessionAfter, opened, workAfter}
-use Rattle.bridge.specs.Opening.{refusedAnswer, sealedAnswer, textAnswer, sealedWork, blocksAfter}
-use Rattle.bridge.proofs.Opening.{plain-passes, plain-frame, sealed-frame, sealed-left}
+use Rattle.bridge.specs.Opener.{adminKey, sessionRules, uartEntryRules, uartText, uartTextRules, acceptedMessage, sessionBy, opened, workAfter}
+use Rattle.bridge.specs.Opening.{refusedAnswer, sessionByAnswer, plainAnswer, textAnswer, textSession, sealedAnswer, sealedSession, openedAs, sealedWork, blocksAfter}
+use Rattle.bridge.proofs.Opening.{plain-passes, plain-session, plain-opened, sealed-opened, sealed-left}
 use Rattle.bridge.proofs.Contents.{message-content}
 use Rattle.bridge.specs.declared.Context.{Context}
-use Rattle.bridge.specs.declared.Answer.{Answer}
-use Rattle.whole_line.specs.Listed.{dataType, Item, plain, sealed, Permitted, Sealable, PermittedItem, wrapperOf, wrapped, Sealed, Framed, Occasion, Fit, during, Opening, Gives}
+use Rattle.bridge.specs.declared.Opened.{Opened}
+use Rattle.whole_line.specs.Listed.{dataType, Item, plain, sealed, Permitted, Sealable, PermittedItem, wrapperOf, wrapped, Sealed, Framed, Occasion, Fit, rememberedAfter, Differs, during, Opening, Gives}
 
 -- ---- the writers
 inside : (least most n : ℕ) → least ≤ n → n ≤ most → outside least most n ≡ false
 inside least most n h k = simp (le-ltb _ _ h, le-ltb _ _ k)
 
 -- the admin key is held in normal mode
-key-held : (k : Keys) (m : Mode) → m ≡ Normal → k .admin .held ≡ true → keyFor k m Admin .held ≡ true
+pub key-held : (k : Keys) (m : Mode) → m ≡ Normal → k .admin .held ≡ true → keyFor k m Admin .held ≡ true
 key-held k m e h = ap (λ (x : Mode). keyFor k x Admin .held) e ∙ h
 
 -- 4 + 16n bytes for at most 490
@@ -82,23 +84,43 @@ keeps g m h =
     lookup-all (λ (r : Row). r .number) (λ (r : Row). r) noRow (λ r. sessionBy g (messageOf (r .body) (drop 2 m)) ≡ g .session) table (dataType m)
     (λ e. refl, (λ e. absurd (h e), (λ e. refl, (λ e. refl, (λ e. refl, (λ e. refl, (λ e. refl, refl)))))))
 
-module _ (g : Context) (t : Seconds) where
+-- the session at a turn: as the one in use, but for what it remembers
+pub record AtTurn (g : Context) (s : Session) (ns : List ℕ) : Type 0 where
+  pub nonce : s .nonce ≡ g .session .nonce
+  pub there : sessionThere (g .session) ≡ true → sessionThere s ≡ true
+  pub valid : (t : Seconds) → validAt s t ≡ validAt (g .session) t
+  pub remembers : remembered (s .memory) ≡ ns
+
+pub at-start : (g : Context) → AtTurn g (g .session) (remembered (g .session .memory))
+at-start g = record { nonce = refl; there = λ e. e; valid = λ t. refl; remembers = refl }
+
+module _ (g : Context) (s : Session) (t : Seconds) where
   -- the context as an opening finds it
   abbrev here : Context
-  here = during g (g .session) t
+  here = during g s t
 
-  plain-answer : (m : List ℕ) (room : ℕ) → Permitted g Plain 507 m → answerOf here room 1 0 m ≡ acceptedMessage false 0 m
-  plain-answer m room ok =
-      sym (plain-frame here room m) ∙ plain-passes here m (ok .short) (ok .long)
+  plain-answer : (m : List ℕ) → Permitted g Plain 507 m → plainAnswer here m ≡ acceptedMessage false 0 m
+  plain-answer m ok =
+      plain-passes here m (ok .short) (ok .long)
       ∙ judge-pass refusedAnswer (messageRules Plain (g .required) (g .mode) m) (acceptedMessage false 0 m) (ok .clear)
 
-  module _ (pn m : List ℕ) (ok : Permitted g Encrypted 490 m) (may : Sealable g pn) (valid : validAt (g .session) t ≡ true) where
+  plain-opens : (m : List ℕ) (room : ℕ) → Permitted g Plain 507 m → opened here room 1 0 m ≡ openedAs (acceptedMessage false 0 m) s
+  plain-opens m room ok =
+      sym (plain-opened here room m)
+      ∙ ap₂ openedAs (plain-answer m ok)
+      (sym (plain-session here m) ∙ ap (sessionByAnswer here) (plain-answer m ok) ∙ keeps here m (ok .other))
+
+  module _ (ns pn m : List ℕ) (turn : AtTurn g s ns) (ok : Permitted g Encrypted 490 m) (may : Sealable g pn)
+      (valid : validAt (g .session) t ≡ true) (differs : Differs ns (sealed pn m)) where
     abbrev p : List ℕ
     p = wrapped g (sealed pn m)
 
+    number-is : packetNonce p ≡ packetNonce pn
+    number-is = sealed-number (adminKey g .bytes) pn (g .session .nonce) m (may .three)
+
     text-is : uartText here p ≡ plainText m
     unfolding uartText
-    text-is = unsealed (adminKey g .bytes) pn (g .session .nonce) m (may .three)
+    text-is = rw (turn .nonce) (unsealed (adminKey g .bytes) pn (g .session .nonce) m (may .three))
 
     enters : (room : ℕ) → 16 * blocksIn p ≤ room → firstBroken (uartEntryRules here room p) ≡ 0
     unfolding uartEntryRules sessionRules
@@ -108,8 +130,11 @@ module _ (g : Context) (t : Seconds) where
           le-ltb room (16 * blocksIn p) h,
           sealed-id (adminKey g .bytes) pn (g .session .nonce) m (may .three),
           key-held (g .keys) (g .mode) (may .normal) (may .held),
-          valid,
-          may .there,
+          turn .there (may .there),
+          turn .valid t ∙ valid,
+          number-is,
+          turn .remembers,
+          differs,
         )
 
     reads : firstBroken (uartTextRules here (plainText m)) ≡ 0
@@ -118,14 +143,18 @@ module _ (g : Context) (t : Seconds) where
         first-right (lateRules (plainText m)) (messageRules Encrypted (g .required) (g .mode) (messageIn (plainText m))) (late-plain m (ok .short))
         ∙ ap (λ (l : List ℕ). firstBroken (messageRules Encrypted (g .required) (g .mode) l)) (message-plain m (ok .short)) ∙ ok .clear
 
-    sealed-answer : (room : ℕ) → 16 * blocksIn p ≤ room → answerOf here room 1 128 p ≡ acceptedMessage true 6 m
-    unfolding sealedAnswer textAnswer
-    sealed-answer room h =
-        sym (sealed-frame here room p)
-        ∙ judge-pass refusedAnswer (uartEntryRules here room p) (textAnswer here (uartText here p)) (enters room h)
+    sealed-opens : (room : ℕ) → 16 * blocksIn p ≤ room → opened here room 1 128 p ≡ openedAs (acceptedMessage true 6 m) (sessionRemembering s (packetNonce p))
+    unfolding sealedAnswer textAnswer sealedSession textSession
+    sealed-opens room h =
+        sym (sealed-opened here room p)
+        ∙ ap₂ openedAs
+        (judge-pass refusedAnswer (uartEntryRules here room p) (textAnswer here (uartText here p)) (enters room h)
         ∙ ap (textAnswer here) text-is
         ∙ judge-pass refusedAnswer (uartTextRules here (plainText m)) (acceptedMessage true 6 (messageIn (plainText m))) reads
-        ∙ ap (acceptedMessage true 6) (message-plain m (ok .short))
+        ∙ ap (acceptedMessage true 6) (message-plain m (ok .short)))
+        (judge-pass (λ n. s) (uartEntryRules here room p) (textSession here (packetNonce p) (uartText here p)) (enters room h)
+        ∙ ap (textSession here (packetNonce p)) text-is
+        ∙ judge-pass (λ n. s) (lateRules (plainText m)) (sessionRemembering s (packetNonce p)) (late-plain m (ok .short)))
 
     sealed-work : (work : List ℕ) → 16 * blocksIn p ≤ length work → workAfter here 1 128 p work ≡ plainText m ++ drop (16 * blocksIn p) work
     unfolding sealedWork
@@ -136,46 +165,51 @@ module _ (g : Context) (t : Seconds) where
         ∙ ap (λ (l : List ℕ). l ++ drop (16 * blocksIn p) work)
         (judge-pass (λ n. replicate (16 * blocksIn p) 0) (uartTextRules here (plainText m)) (plainText m) reads)
 
+    -- the next turn
+    sealed-turn : AtTurn g (sessionRemembering s (packetNonce p)) (rememberedAfter ns (sealed pn m))
+    sealed-turn =
+        let e = turn .there (may .there) in
+        record {
+          nonce = session-nonce s (packetNonce p) e ∙ turn .nonce;
+          there = λ i. session-there s (packetNonce p) e;
+          valid = λ x. session-valid s (packetNonce p) e x ∙ turn .valid x;
+          remembers = session-remembers s (packetNonce p) e ∙ ap₂ inFront number-is (turn .remembers);
+        }
+
 -- ---- an opening of an item
--- what comes of it: the answer, and the work buffer
-abbrev openingOf : Context → Occasion → Item → Opening
-openingOf g o i =
-    let h : Context = during g (g .session) (o .time) in
-    record {
-      frame = wrapped g i;
-      answer = opened h (length (o .work)) 1 (wrapperOf i) (wrapped g i) .answer;
-      work = workAfter h 1 (wrapperOf i) (wrapped g i) (o .work);
-    }
+-- what comes of it: the answer and the session, and the opening
+abbrev pub openedItem : Context → Session → Occasion → Item → Opened
+openedItem g s o i = opened (during g s (o .time)) (length (o .work)) 1 (wrapperOf i) (wrapped g i)
 
--- a plain message gives its content whatever the work buffer holds
-plain-gives : (g : Context) (t : Seconds) (m : List ℕ) (room : ℕ) (work : List ℕ) → Permitted g Plain 507 m
-    → answerContent (answerOf (during g (g .session) t) room 1 0 m) m work ≡ accepted (tableContent m)
-plain-gives g t m room work ok =
-    ap (λ (a : Answer). answerContent a m work) (plain-answer g t m room ok)
-    ∙ message-content g Plain false 0 m m work (ok .short) (ok .clear) (take-length m)
+abbrev openingOf : Context → Session → Occasion → Item → Opening
+openingOf g s o i =
+    record { frame = wrapped g i; answer = openedItem g s o i .answer; work = workAfter (during g s (o .time)) 1 (wrapperOf i) (wrapped g i) (o .work) }
 
-pub one-gives : (g : Context) (o : Occasion) (i : Item) → PermittedItem g i → Fit g o i → Gives i (openingOf g o i)
-unfolding opened
-one-gives g o (plain m) ok fit = record { content = plain-gives g (o .time) m (length (o .work)) _ ok }
-one-gives g o (sealed pn m) ok fit =
-    let p : List ℕ = wrapped g (sealed pn m) in
-    let w : List ℕ = plainText m ++ drop (16 * blocksIn p) (o .work) in
-    record {
-      content =
-          ap₂ (λ (a : Answer) (l : List ℕ). answerContent a p l) (sealed-answer g (o .time) pn m (ok .0) (ok .1) (fit .0) (length (o .work)) (fit .1))
-          (sealed-work g (o .time) pn m (ok .0) (ok .1) (fit .0) (o .work) (fit .1))
-          ∙ message-content g Encrypted true 6 m p w (ok .0 .short) (ok .0 .clear) (message-behind m (drop (16 * blocksIn p) (o .work)));
-    }
+module _ (g : Context) (s : Session) (ns : List ℕ) (turn : AtTurn g s ns) (o : Occasion) where
+  pub one-gives : (i : Item) → PermittedItem g i → Fit g o i → Differs ns i → Gives i (openingOf g s o i)
+  one-gives (plain m) ok fit d =
+      record {
+        content =
+            ap (λ (r : Opened). answerContent (r .answer) m (workAfter (during g s (o .time)) 1 0 m (o .work))) (plain-opens g s (o .time) m (length (o .work)) ok)
+            ∙ message-content g Plain false 0 m m _ (ok .short) (ok .clear) (take-length m);
+      }
+  one-gives (sealed pn m) ok fit d =
+      let p : List ℕ = wrapped g (sealed pn m) in
+      let w : List ℕ = plainText m ++ drop (16 * blocksIn p) (o .work) in
+      record {
+        content =
+            ap₂ (λ (r : Opened) (l : List ℕ). answerContent (r .answer) p l) (sealed-opens g s (o .time) ns pn m turn (ok .0) (ok .1) (fit .0) d (length (o .work)) (fit .1))
+            (sealed-work g s (o .time) ns pn m turn (ok .0) (ok .1) (fit .0) d (o .work) (fit .1))
+            ∙ message-content g Encrypted true 6 m p w (ok .0 .short) (ok .0 .clear) (message-behind m (drop (16 * blocksIn p) (o .work)));
+      }
 
-pub one-keeps : (g : Context) (o : Occasion) (i : Item) → PermittedItem g i → Fit g o i
-    → opened (during g (g .session) (o .time)) (length (o .work)) 1 (wrapperOf i) (wrapped g i) .session ≡ g .session
-unfolding opened
-one-keeps g o (plain m) ok fit =
-    ap (sessionAfter (during g (g .session) (o .time))) (plain-answer g (o .time) m (length (o .work)) ok)
-    ∙ keeps (during g (g .session) (o .time)) m (ok .other)
-one-keeps g o (sealed pn m) ok fit =
-    ap (sessionAfter (during g (g .session) (o .time))) (sealed-answer g (o .time) pn m (ok .0) (ok .1) (fit .0) (length (o .work)) (fit .1))
-    ∙ keeps (during g (g .session) (o .time)) m (ok .0 .other)
+  pub one-turns : (i : Item) → PermittedItem g i → Fit g o i → Differs ns i → AtTurn g (openedItem g s o i .session) (rememberedAfter ns i)
+  one-turns (plain m) ok fit d =
+      subst (λ (r : Opened). AtTurn g (r .session) ns) (sym (plain-opens g s (o .time) m (length (o .work)) ok)) turn
+  one-turns (sealed pn m) ok fit d =
+      subst (λ (r : Opened). AtTurn g (r .session) (rememberedAfter ns (sealed pn m)))
+      (sym (sealed-opens g s (o .time) ns pn m turn (ok .0) (ok .1) (fit .0) d (length (o .work)) (fit .1)))
+      (sealed-turn g s (o .time) ns pn m turn (ok .0) (ok .1) (fit .0) d)
 
 -- ---- equal wrapper types and payloads come of equal items
 pub one-same : (g : Context) (i j : Item) → PermittedItem g i → PermittedItem g j → wrapperOf i ≡ wrapperOf j → wrapped g i ≡ wrapped g j → i ≡ j

@@ -5,4 +5,5 @@ pub mod Permits
 pub mod Limits
 pub mod Example
 pub mod Needed
+pub mod Replayed
 pub mod Wrong

@@ -7,7 +7,7 @@ use native.Mathlib.Omega.{arith}
 use lib.ListN.{length, getD}
 use lib.Dec.{ltb}
 use Rattle.wire.specs.Parts.{partOf}
-use Rattle.wire.specs.Rules.{_when_, firstBroken, verdict}
+use Rattle.wire.specs.Rules.{Rule, _when_, firstBroken, among, verdict}
 use Rattle.wire.specs.Writing.{Writes}
 use Rattle.wire.specs.declared.Written.{Written}
 use Rattle.wire.specs.declared.Written.the-variants.{Refused}
@@ -19,15 +19,16 @@ use Rattle.line.specs.Line as line
 use Rattle.line.specs.Line.{refusal, frame, frameGives, valueGives, escapedGives, insideGives, gives, run}
 use Rattle.access.specs.declared.Mode.{Mode}
 use Rattle.access.specs.declared.Mode.the-variants.{Normal, Setup}
-use Rattle.session.specs.Session.{validAt, noSession, withNonce}
+use Rattle.session.specs.Memory.{inLimits, remembered, remembering}
+use Rattle.session.specs.Session.{sessionThere, validAt, noSession, withNonce, sessionRemembering}
 use Rattle.session.specs.Keys.{noKey}
 use Rattle.session.specs.declared.Session.{Session}
 use Rattle.session.specs.declared.Keys.{Keys}
 use Rattle.aes.proofs.KeyStream.{length-ctr}
-use Rattle.envelope.specs.Blocks.{outside, Seals, blocksIn, wrongLength, enveloped, notLeast}
+use Rattle.envelope.specs.Blocks.{outside, Seals, blocksIn, packetNonce, wrongLength, enveloped, notLeast}
 use Rattle.envelope.specs.Sealed.{sealedImage, plainText, lateRules, messageIn}
-use Rattle.envelope.proofs.Unsealed.{sealed-id, sealed-blocks, sealed-whole, unsealed, length-plain}
-use Rattle.bridge.specs.Opener.{adminKey, sessionRules, uartEntryRules, uartText, uartTextRules, plainRules, uartOpenRules, answerOf, opened}
+use Rattle.envelope.proofs.Unsealed.{sealed-number, sealed-id, sealed-blocks, sealed-whole, unsealed, length-plain}
+use Rattle.bridge.specs.Opener.{adminKey, sessionRules, uartEntryRules, uartText, uartTextRules, plainRules, uartOpenRules, answerOf, sessionAfter, opened}
 use Rattle.bridge.specs.Opening.{refusedAnswer, sealedAnswer, textAnswer}
 use Rattle.bridge.proofs.Opening.{sealed-frame}
 use Rattle.bridge.specs.declared.Context.{Context}
@@ -40,7 +41,7 @@ abbrev pub got : Context → ℕ → ℕ → Item → Answer
 got h time room (plain m) = answerOf (during h (h .session) (record { 0 = time })) room 1 0 m
 got h time room (sealed pn m) = answerOf (during h (h .session) (record { 0 = time })) room 1 128 (wrapped h (sealed pn m))
 
--- ---- a sealed message's opening: 25, 10, 8 and 9
+-- ---- a sealed message's opening: 25, 10, 8, 9 and 28
 abbrev pn : List ℕ
 pn = 0x7E ∷ 8 ∷ 9 ∷ []
 
@@ -55,7 +56,11 @@ module _ (h : Context) (time room : ℕ) (m : List ℕ) (short : length m ≤ 10
   abbrev payload : List ℕ
   payload = wrapped h (sealed pn m)
 
-  enters : firstBroken (uartEntryRules here room payload) ≡ firstBroken ((25 when ltb room 16) ∷ sessionRules here 0)
+  -- 25; 10, 8 and 9; 28
+  abbrev rules : List Rule
+  rules = (25 when ltb room 16) ∷ (sessionRules here 0 ++ ((28 when among (packetNonce pn) (remembered (h .session .memory))) ∷ []))
+
+  enters : firstBroken (uartEntryRules here room payload) ≡ firstBroken rules
   unfolding uartEntryRules
   enters =
       let n : blocksIn payload ≡ 1 = omega (arith, sealed-blocks (adminKey h .bytes) pn (h .session .nonce) m refl) in
@@ -63,18 +68,17 @@ module _ (h : Context) (time room : ℕ) (m : List ℕ) (short : length m ≤ 10
         sealed-whole (adminKey h .bytes) pn (h .session .nonce) m refl (omega arith),
         n,
         sealed-id (adminKey h .bytes) pn (h .session .nonce) m refl,
+        sealed-number (adminKey h .bytes) pn (h .session .nonce) m refl,
       )
 
-  answered : (n : ℕ) → firstBroken ((25 when ltb room 16) ∷ sessionRules here 0) ≡ n → got h time room (sealed pn m) ≡ verdict refusedAnswer n (textAnswer here (plainText m))
+  answered : (n : ℕ) → firstBroken rules ≡ n → got h time room (sealed pn m) ≡ verdict refusedAnswer n (textAnswer here (plainText m))
   unfolding sealedAnswer uartText
   answered n e =
       sym (sealed-frame here room payload)
       ∙ ap (λ (i : ℕ). verdict refusedAnswer i (textAnswer here (uartText here payload))) (enters ∙ e)
       ∙ ap (λ (l : List ℕ). verdict refusedAnswer n (textAnswer here l)) (unsealed (adminKey h .bytes) pn (h .session .nonce) m refl)
 
-entered : (h : Context) (time room n : ℕ)
-    → firstBroken ((25 when ltb room 16) ∷ sessionRules (during h (h .session) (record { 0 = time })) 0) ≡ suc n
-    → got h time room one ≡ refusedAnswer (suc n)
+entered : (h : Context) (time room n : ℕ) → firstBroken (rules h time room switch (omega arith) (omega arith)) ≡ suc n → got h time room one ≡ refusedAnswer (suc n)
 entered h time room n e = answered h time room switch (omega arith) (omega arith) (suc n) e
 
 abbrev with : Session → Keys → Mode → Context
@@ -85,28 +89,33 @@ noKeys = record { admin = noKey; member = noKey; basic = noKey; setup = noKey }
 
 -- room one byte short; no admin key; setup mode; no session; the session run out; a clock behind
 pub short-room : got g 159 15 one ≡ refusedAnswer 25
-unfolding sessionRules validAt
+unfolding sessionRules validAt sessionThere remembered inLimits
 short-room = entered g 159 15 24 refl
 
 pub no-key : got (with (g .session) noKeys Normal) 159 16 one ≡ refusedAnswer 10
-unfolding sessionRules validAt
+unfolding sessionRules validAt sessionThere remembered inLimits
 no-key = entered (with (g .session) noKeys Normal) 159 16 9 refl
 
 pub in-setup : got (with (g .session) (g .keys) Setup) 159 16 one ≡ refusedAnswer 10
-unfolding sessionRules validAt
+unfolding sessionRules validAt sessionThere remembered inLimits
 in-setup = entered (with (g .session) (g .keys) Setup) 159 16 9 refl
 
 pub no-session : got (with noSession (g .keys) Normal) 159 16 one ≡ refusedAnswer 8
-unfolding sessionRules validAt
+unfolding sessionRules validAt sessionThere remembered inLimits
 no-session = entered (with noSession (g .keys) Normal) 159 16 7 refl
 
 pub run-out : got g 160 16 one ≡ refusedAnswer 9
-unfolding sessionRules validAt
+unfolding sessionRules validAt sessionThere remembered inLimits
 run-out = entered g 160 16 8 refl
 
 pub clock-behind : got g 99 16 one ≡ refusedAnswer 9
-unfolding sessionRules validAt
+unfolding sessionRules validAt sessionThere remembered inLimits
 clock-behind = entered g 99 16 8 refl
+
+-- a packet nonce that the session remembers
+pub nonce-again : got (with (sessionRemembering (g .session) (packetNonce pn)) (g .keys) Normal) 159 16 one ≡ refusedAnswer 28
+unfolding sessionRules validAt sessionThere remembered inLimits remembering sessionRemembering
+nonce-again = entered (with (sessionRemembering (g .session) (packetNonce pn)) (g .keys) Normal) 159 16 27 refl
 
 -- a packet nonce of two bytes: the payload has 19, and gets 7
 two-bytes : length (wrapped g (sealed (8 ∷ 9 ∷ []) switch)) ≡ 19
@@ -175,7 +184,7 @@ broken-packet = refl
 
 -- encrypted where plain only. No message of the list gets 22: every command that normal mode permits is marked A
 pub broken-form : got g 159 16 (sealed pn hello) ≡ refusedAnswer 16
-unfolding sessionRules validAt textAnswer uartTextRules lateRules plainText messageIn notLeast
+unfolding sessionRules validAt sessionThere remembered inLimits textAnswer uartTextRules lateRules plainText messageIn notLeast
 broken-form = answered g 159 16 hello (omega arith) (omega arith) 0 refl
 
 -- ---- a session nonce in the list: the session after it is another
@@ -183,11 +192,11 @@ abbrev renew : List ℕ
 renew = 1 ∷ 0 ∷ 1 ∷ 9 ∷ 9 ∷ 9 ∷ 9 ∷ 9 ∷ []
 
 pub renewed : opened g 0 1 0 renew .session ≡ withNonce (g .session) (9 ∷ 9 ∷ 9 ∷ 9 ∷ 9 ∷ []) (record { 0 = 1 }) (g .time)
-unfolding opened answerOf uartOpenRules plainRules
+unfolding opened sessionAfter plainRules
 renewed = refl
 
 pub another : opened g 0 1 0 renew .session ≡ g .session → ⊥
-unfolding opened answerOf uartOpenRules plainRules
+unfolding opened sessionAfter plainRules
 another e = let z : _≡_ {A = ℕ} 9 0x7E = ap (λ (s : Session). getD (s .nonce) 0 0) e in omega arith
 
 -- ---- the line

@@ -11,11 +11,12 @@ use Rattle.line.specs.Line as line
 use Rattle.line.specs.Line.{Emitted, refusal, insideGives, gives, run, after, NoStart, Sendable}
 use Rattle.line.proofs.Delivery.{atStart, delivered, after-kept, same-line}
 use Rattle.line.specs.declared.Receiver.{Receiver}
+use Rattle.session.specs.Memory.{remembered}
 use Rattle.session.specs.declared.Session.{Session}
 use Rattle.bridge.specs.declared.Context.{Context}
-use Rattle.whole_line.specs.Listed.{SentItem, items, Made, onLine, lineOf, wrapperOf, wrapped, AllWritten, Occasion, Ready, Opening, openings, AllGive}
+use Rattle.whole_line.specs.Listed.{SentItem, items, Made, onLine, lineOf, wrapperOf, wrapped, AllWritten, Occasion, Ready, rememberedAfter, AllDiffer, Opening, openings, AllGive}
 use Rattle.whole_line.specs.Claim.{Read, OneWay}
-use Rattle.whole_line.proofs.Items.{one-short, one-seals, one-frames, one-gives, one-keeps, one-same}
+use Rattle.whole_line.proofs.Items.{one-short, one-seals, one-frames, AtTurn, at-start, openedItem, one-gives, one-turns, one-same}
 
 sendable : (g : Context) (ts : List SentItem) → Made g ts → Sendable (onLine g ts)
 sendable g [] ok = tt
@@ -25,15 +26,15 @@ all-written : (g : Context) (ts : List SentItem) → Made g ts → AllWritten g 
 all-written g [] ok = tt
 all-written g (t ∷ ts) ok = (one-seals g (t .item) (ok .0), one-frames g (t .item) (ok .0), all-written g ts (ok .2))
 
-all-give : (g : Context) (at : ℕ → Occasion) (n : ℕ) (ts : List SentItem) → Made g ts → Ready g at n (items ts)
-    → AllGive (items ts) (openings g at n (g .session) (line.framesOf (onLine g ts)))
+all-give : (g : Context) (at : ℕ → Occasion) (n : ℕ) (s : Session) (ns : List ℕ) (ts : List SentItem) → AtTurn g s ns
+    → Made g ts → Ready g at n (items ts) → AllDiffer ns (items ts)
+    → AllGive (items ts) (openings g at n s (line.framesOf (onLine g ts)))
 unfolding openings line.framesOf
-all-give g at n [] ok fit = tt
-all-give g at n (t ∷ ts) ok fit = (
-  one-gives g (at n) (t .item) (ok .0) (fit .0),
-  subst (λ (x : Session). AllGive (items ts) (openings g at (suc n) x (line.framesOf (onLine g ts))))
-      (sym (one-keeps g (at n) (t .item) (ok .0) (fit .0)))
-      (all-give g at (suc n) ts (ok .2) (fit .1)),
+all-give g at n s ns [] turn ok fit differ = tt
+all-give g at n s ns (t ∷ ts) turn ok fit differ = (
+  one-gives g s ns turn (at n) (t .item) (ok .0) (fit .0) (differ .0),
+  all-give g at (suc n) (openedItem g s (at n) (t .item) .session) (rememberedAfter ns (t .item)) ts
+      (one-turns g s ns turn (at n) (t .item) (ok .0) (fit .0) (differ .0)) (ok .2) (fit .1) (differ .1),
 )
 
 -- ---- the start byte
@@ -51,7 +52,7 @@ unfolding run gives insideGives after
 past r l fs e = behind (busy (r .progress)) _ (run l (after (0x7E ∷ []) r)) fs e
 
 -- the refusal at the start byte is no frame
-skip : (g : Context) (at : ℕ → Occasion) (n : ℕ) (s : Session) (b : Bool) (k : ℕ) (es : List Emitted)
+pub skip : (g : Context) (at : ℕ → Occasion) (n : ℕ) (s : Session) (b : Bool) (k : ℕ) (es : List Emitted)
     → openings g at n s (pick b (refusal 1 k ∷ []) [] ++ es) ≡ openings g at n s es
 unfolding openings
 skip g at n s true k es = refl
@@ -62,9 +63,9 @@ module _ (g : Context) (t : SentItem) (ts : List SentItem) (r : Receiver) (store
   pub handed : run (lineOf g (t ∷ ts)) r ≡ atStart r ++ line.framesOf (onLine g (t ∷ ts))
   handed = delivered r _ (onLine g ts) store (sendable g (t ∷ ts) made)
 
-  reads : (at : ℕ → Occasion) → Ready g at 0 (items (t ∷ ts)) → Read g (t ∷ ts) r at
+  reads : (at : ℕ → Occasion) → Ready g at 0 (items (t ∷ ts)) → AllDiffer (remembered (g .session .memory)) (items (t ∷ ts)) → Read g (t ∷ ts) r at
   unfolding line.lineOf
-  reads at fit =
+  reads at fit differ =
       record {
         writes = all-written g (t ∷ ts) made;
         begins = refl;
@@ -73,7 +74,7 @@ module _ (g : Context) (t : SentItem) (ts : List SentItem) (r : Receiver) (store
         gives =
             subst (λ (es : List Opening). AllGive (items (t ∷ ts)) es)
             (sym (ap (openings g at 0 (g .session)) handed ∙ skip g at 0 (g .session) (busy (r .progress)) (r .progress .count + 1) (line.framesOf (onLine g (t ∷ ts)))))
-            (all-give g at 0 (t ∷ ts) made fit);
+            (all-give g at 0 (g .session) (remembered (g .session .memory)) (t ∷ ts) (at-start g) made fit differ);
       }
 
 -- ---- the second part
@@ -95,7 +96,7 @@ same-items g (t ∷ ts) (u ∷ us) a b e =
 pub no-line-two-ways : (g : Context) → OneWay g
 no-line-two-ways g =
     record {
-      read = λ t ts made before r store at fit. reads g t ts (after before r) (after-kept before r ∙ store) made at fit;
+      read = λ t ts made before r store at fit differ. reads g t ts (after before r) (after-kept before r ∙ store) made at fit differ;
       made = λ ts us mt mu b c nb nc e.
           same-items g ts us mt mu (same-line (onLine g ts) (onLine g us) (sendable g ts mt) (sendable g us mu) b c nb nc e);
     }

@@ -15,6 +15,8 @@ use Rattle.access.specs.declared.Mode.the-variants.{Normal, Setup}
 use Rattle.message.specs.Reading.{messageRules, tableContent}
 use Rattle.message.specs.declared.Form.{Form}
 use Rattle.message.specs.declared.Form.the-variants.{Plain, Encrypted}
+use Rattle.session.specs.Memory.{emptyMemory}
+use Rattle.session.specs.Session.{sessionThere}
 use Rattle.session.specs.Keys.{noKey}
 use Rattle.bridge.specs.declared.Context.{Context}
 use Rattle.whole_line.specs.Listed.{Item, plain, sealed, itemMessage, dataType, Permitted, PermittedItem}
@@ -24,7 +26,7 @@ use Rattle.whole_line.specs.Bench.{packetOf}
 abbrev pub contextIn : Mode → Bool → Context
 contextIn mode required =
     record {
-      session = record { held = true; nonce = replicate 5 1; timeout = record { 0 = 1 }; since = record { 0 = 100 } };
+      session = record { held = true; nonce = replicate 5 1; timeout = record { 0 = 1 }; since = record { 0 = 100 }; memory = emptyMemory };
       time = record { 0 = 159 };
       keys = record { admin = record { held = true; bytes = replicate 16 1 }; member = noKey; basic = noKey; setup = noKey };
       mode = mode;
@@ -96,7 +98,7 @@ isNormal Setup = false
 abbrev may : Context → Item → Bool
 may g (plain m) = fits g Plain 507 m
 may g (sealed n m) =
-    fits g Encrypted 490 m && (isNormal (g .mode) && (g .keys .admin .held && (g .session .held && eqb (length n) 3)))
+    fits g Encrypted 490 m && (isNormal (g .mode) && (g .keys .admin .held && (sessionThere (g .session) && eqb (length n) 3)))
 
 permitted : (g : Context) (f : Form) (most : ℕ) (m : List ℕ) → fits g f most m ≡ true → Permitted g f most m
 permitted g f most m e =
@@ -120,7 +122,7 @@ permitted-item g (sealed n m) e =
     let a = and-holds (fits g Encrypted 490 m) _ e in
     let b = and-holds (isNormal (g .mode)) _ (a .1) in
     let c = and-holds (g .keys .admin .held) _ (b .1) in
-    let d = and-holds (g .session .held) _ (c .1) in
+    let d = and-holds (sessionThere (g .session)) _ (c .1) in
     (permitted g Encrypted 490 m (a .0), record { normal = normal (g .mode) (b .0); held = c .0; there = d .0; three = eqb-true (length n) 3 (d .1) })
 
 abbrev all : List Case → Bool
@@ -133,6 +135,7 @@ each (c ∷ cs) e = let a = and-holds (may (c .context) (c .item)) (all cs) e in
 
 -- every case is permitted
 pub permits : AllPermitted cases
+unfolding sessionThere
 permits = each cases refl
 
 -- and holds what stands beside it

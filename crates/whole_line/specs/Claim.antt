@@ -7,8 +7,9 @@ use Rattle.wire.specs.Choice.{pick}
 use Rattle.line.specs.Receive.{busy}
 use Rattle.line.specs.Line as line
 use Rattle.line.specs.declared.Receiver.{Receiver}
+use Rattle.session.specs.Memory.{remembered}
 use Rattle.bridge.specs.declared.Context.{Context}
-use Rattle.whole_line.specs.Listed.{SentItem, items, Made, onLine, lineOf, AllWritten, Occasion, Ready, openings, AllGive}
+use Rattle.whole_line.specs.Listed.{SentItem, items, Made, onLine, lineOf, AllWritten, Occasion, Ready, AllDiffer, openings, AllGive}
 
 -- What becomes of a list of one message or more, from its first start byte on: of the line that it makes, over a receiver by what bytes give and the
 -- record after them. r is the receiver as that byte finds it.
@@ -32,12 +33,13 @@ Read g ts r at = ReadBy (lineOf g ts) line.run line.after g ts r at
 
 -- g: keys, mode, whether encryption is required, and the session in use.
 pub record OneWay (g : Context) : Type 0 where
-  -- any list of permitted messages, whatever noise is between and after them and whatever came before, whatever record the receiver is,
-  -- whatever the work buffers hold
+  -- any list of permitted messages whose packet nonces differ from those remembered at their turn, the ones that the session holds at the start
+  -- among them; whatever noise is between and after them and whatever came before, whatever record the receiver is, whatever the work buffers hold
   pub read :
       (t : SentItem) (ts : List SentItem) → Made g (t ∷ ts)
       → (before : List ℕ) (r : Receiver) → length (r .store) ≡ 512
       → (at : ℕ → Occasion) → Ready g at 0 (items (t ∷ ts))
+      → AllDiffer (remembered (g .session .memory)) (items (t ∷ ts))
       → Read g (t ∷ ts) (line.after before r) at
   -- two lists that make the same line, whatever noise is in either, are the same: in length, and at each place in message, form and packet nonce
   pub made :

@@ -1,11 +1,11 @@
 -- The list of demand 3: messages in their forms, which of them are permitted, the line that they make, and the openings.
 use Prim.Native.Nat.{ℕ, suc, _*_, _≤_}
 use mathlib.Core.Path.{_≡_}
-use mathlib.Core.Bool.{true}
+use mathlib.Core.Bool.{true, false}
 use mathlib.Core.List.{List, [], _∷_}
 use lib.ListN.{length, take}
 use Rattle.wire.specs.Numbers.{num}
-use Rattle.wire.specs.Rules.{firstBroken}
+use Rattle.wire.specs.Rules.{firstBroken, among}
 use Rattle.wire.specs.Content.{accepted}
 use Rattle.wire.specs.Writing.{Writes}
 use Rattle.wire.specs.declared.Written.{Written}
@@ -17,10 +17,11 @@ use Rattle.access.specs.declared.Mode.the-variants.{Normal}
 use Rattle.message.specs.Reading.{messageRules, tableContent}
 use Rattle.message.specs.declared.Form.{Form}
 use Rattle.message.specs.declared.Form.the-variants.{Plain, Encrypted}
-use Rattle.session.specs.Session.{validAt}
+use Rattle.session.specs.Memory.{inFront}
+use Rattle.session.specs.Session.{sessionThere, validAt}
 use Rattle.session.specs.declared.Session.{Session}
 use Rattle.units.specs.declared.Seconds.{Seconds}
-use Rattle.envelope.specs.Blocks.{outside, Seals, blocksIn}
+use Rattle.envelope.specs.Blocks.{outside, Seals, blocksIn, packetNonce}
 use Rattle.envelope.specs.Sealed.{sealedImage}
 use Rattle.bridge.specs.Content.{answerContent}
 use Rattle.bridge.specs.Opener.{adminKey, opened, workAfter}
@@ -63,7 +64,7 @@ pub record Permitted (g : Context) (f : Form) (most : ℕ) (m : List ℕ) : Type
 pub record Sealable (g : Context) (pn : List ℕ) : Type 0 where
   pub normal : g .mode ≡ Normal
   pub held : g .keys .admin .held ≡ true
-  pub there : g .session .held ≡ true
+  pub there : sessionThere (g .session) ≡ true
   pub three : length pn ≡ 3
 
 abbrev pub PermittedItem : Context → Item → Type 0
@@ -125,6 +126,20 @@ Fit g o (sealed pn m) = (validAt (g .session) (o .time) ≡ true) × (16 * block
 abbrev pub Ready : Context → (ℕ → Occasion) → ℕ → List Item → Type 0
 Ready g at n [] = Unit {0}
 Ready g at n (i ∷ is) = Fit g (at n) i × Ready g at (suc n) is
+
+-- what is remembered after an item (document 02 §6): an encrypted one's packet nonce is put in front, and eight are kept
+abbrev pub rememberedAfter : List ℕ → Item → List ℕ
+rememberedAfter ns (plain m) = ns
+rememberedAfter ns (sealed pn m) = inFront (packetNonce pn) ns
+
+-- each encrypted one's packet nonce differs from those remembered at its turn; ns are those remembered before the first
+abbrev pub Differs : List ℕ → Item → Type 0
+Differs ns (plain m) = Unit {0}
+Differs ns (sealed pn m) = among (packetNonce pn) ns ≡ false
+
+abbrev pub AllDiffer : List ℕ → List Item → Type 0
+AllDiffer ns [] = Unit {0}
+AllDiffer ns (i ∷ is) = Differs ns i × AllDiffer (rememberedAfter ns i) is
 
 -- the context of an opening: keys, mode and setting as in g, the session and the time its own
 abbrev pub during : Context → Session → Seconds → Context

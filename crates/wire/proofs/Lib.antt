@@ -12,3 +12,4 @@ pub mod Five
 pub mod Writers
 pub mod Held
 pub mod Given
+pub mod Same

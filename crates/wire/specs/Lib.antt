@@ -6,3 +6,4 @@ pub mod Content
 pub mod Writing
 pub mod Lookup
 pub mod Fields
+pub mod Same

@@ -8,6 +8,7 @@ ghost use lib.ListN.{length, getD};
 ghost use lib.Seq.{sets};
 ghost use Rattle.wire.specs.Numbers.{num, le};
 ghost use Rattle.wire.specs.Parts.{partOf};
+ghost use Rattle.wire.specs.Same.{sameBytes};
 ghost use Rattle.wire.specs.Writing.{Stores, noRoom};
 
 // A part of a lent slice.
@@ -52,6 +53,23 @@ pub fn byte_at(s: &[u8], at: usize) -> u8
         return 0;
     }
     s[at]
+}
+
+// Whether two slices hold the same bytes.
+pub fn same_bytes(s: &[u8], t: &[u8]) -> bool
+    ensures { λ r. ⌜ r ≡ sameBytes (now (s .entry)) (now (t .entry)) ⌝ }
+{
+    if s.len() != t.len() {
+        return false;
+    }
+    let mut i: usize = 0;
+    while i < s.len() {
+        if s[i] != t[i] {
+            return false;
+        }
+        i += 1;
+    }
+    true
 }
 
 // The number of two bytes at a place, low byte first; a byte past the end counts as 0.

@@ -7,10 +7,10 @@ use Rattle.end_to_end.proofs.items.Statement.{statement}
 use Rattle.end_to_end.proofs.items.Tie as tie
 
 abbrev Inv-loop : tie.InvT-loop
-Inv-loop s line₀ at₀ n k₀ line at k = length line ≡ 8192
+Inv-loop s line₀ after₀ n k₀ line after k = length line ≡ 8192
 
 abbrev μ-loop : tie.MeasureT-loop
-μ-loop s line₀ at₀ n k₀ line at k = n - k
+μ-loop s line₀ after₀ n k₀ line after k = n - k
 
 pub items-spec : {M : Type 1} → statement M
 items-spec =
@@ -18,6 +18,7 @@ items-spec =
     (tie.spec
     Inv-loop
     μ-loop
+    (λ c κs. search needs)
     (λ c κs. search needs)
     (λ c. search needs)
     (λ c. search needs)

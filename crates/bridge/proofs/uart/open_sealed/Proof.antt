@@ -1,15 +1,14 @@
 -- `uart::open_sealed` meets its contract. Assumes nothing.
-use mathlib.Core.Path.{_≡_, sym, ap, _∙_}
+use mathlib.Core.Path.{_≡_, sym, ap₂, _∙_}
 use Prim.Native.Nat.{_-_, _*_}
 use native.Mathlib.Omega.{arith}
 use lib.ListN.{length}
 use Rattle.wire.specs.Rules.{firstBroken}
 use Rattle.envelope.specs.Blocks.{blocksIn}
 use Rattle.bridge.specs.Opener.{uartEntryRules, uartText}
-use Rattle.bridge.specs.Opening.{textAnswer}
+use Rattle.bridge.specs.Opening.{textOpened}
 use Rattle.bridge.proofs.Judging.{blocks-part}
 use Rattle.bridge.proofs.Opening.{whole, long, answered-after, refused-before}
-use Rattle.bridge.specs.declared.Answer.the-variants.{Refused}
 use borrow.Author.Needs.{needs}
 use Rattle.bridge.proofs.uart.open_sealed.Statement.{statement}
 use Rattle.bridge.proofs.uart.open_sealed.Tie as tie
@@ -18,7 +17,7 @@ returns : tie.Need-returns
 returns c =
     let a = c .before .before .before .before .before .args in
     let r = refused-before (a .context) (a .payload .now) (a .work .now) _ (c .before .before .entry-refusal .ensures) (c .before .if1 .taken) in
-    (ap Refused (c .refusal .ensures) ∙ r .0, r .1)
+    (c .refused .ensures ∙ r .0, r .1)
 
 sub-n : tie.Need-sub-n
 sub-n c =
@@ -27,16 +26,19 @@ sub-n c =
 
 returns-2 : tie.Need-returns-2
 returns-2 c =
-    let a = c .before .before .before .before .before .before .before .before .before .before .before .before .before .before .before .args in
+    let r = c .before .before .before .before in
+    let f = r .before .before .before .before .before .before in
+    let h = f .before .before in
+    let a = h .before .before .before .before .args in
     let g = a .context in
     let p = a .payload .now in
     let w = a .work .now in
-    let e : firstBroken (uartEntryRules g (length w) p) ≡ 0 = sym (c .before .before .before .before .before .before .before .before .before .before .before .before .entry-refusal .ensures) ∙ c .before .before .before .before .before .before .before .before .before .before .before .if1 .left in
+    let e : firstBroken (uartEntryRules g (length w) p) ≡ 0 = sym (h .before .entry-refusal .ensures) ∙ h .if1 .left in
     let k : length p - 4 ≡ 16 * blocksIn p = omega (arith, whole g p w e .0) in
-    let d = c .before .before .before .before .before .before .before .before .before .decipher .ensures in
-    answered-after g p w e (c .before .before .before .before .read-text .result)
-    (c .before .before .before .before .read-text .ensures
-    ∙ ap (textAnswer g) (c .before .before .before .before .before .part-of .ensures ∙ blocks-part (blocksIn p) (uartText g p) w (long g p w e) d k))
+    let d = f .decipher .ensures in
+    answered-after g p w e
+    (r .read-text .ensures
+    ∙ ap₂ (textOpened g) (r .before .packet-nonce .ensures) (r .before .before .part-of .ensures ∙ blocks-part (blocksIn p) (uartText g p) w (long g p w e) d k))
     d k (c .before .before .clear-refused .ensures)
 
 pub open-sealed-spec : {M : Type 1} → statement M
@@ -48,6 +50,7 @@ open-sealed-spec =
     returns
     (λ c κs. search needs)
     sub-n
+    (λ c κs. search needs)
     (λ c κs. search needs)
     (λ c κs. search needs)
     (λ c κs. search needs)

@@ -1,4 +1,5 @@
 -- `session::Session::valid_at` meets its contract. Assumes nothing.
+use mathlib.Core.Path.{_∙_}
 use borrow.Author.Needs.{needs}
 use Rattle.session.proofs.Validity.{behind, run-out, not-run-out}
 use Rattle.session.proofs.Session.valid_at.Statement.{statement}
@@ -9,9 +10,11 @@ returns c = let a = c .before .before .before .before .before .args in behind (a
 
 returns-2 : tie.Need-returns-2
 returns-2 c =
-    let a = c .before .before .before .before .before .before .before .before .before .before .before .args in
-    not-run-out (a .self) (a .now) (c .before .before .before .before .before .before .if1 .left)
-    (rw (c .before .before .before .whole-minutes .ensures) at (c .if2 .taken))
+    let d = c .before in
+    let a = d .before .before .before .before .before .before .before .before .before .before .before .args in
+    c .is-there .ensures
+    ∙ not-run-out (a .self) (a .now) (d .before .before .before .before .before .before .if1 .left)
+    (rw (d .before .before .before .whole-minutes .ensures) at (d .if2 .taken))
 
 returns-3 : tie.Need-returns-3
 returns-3 c =
@@ -20,4 +23,4 @@ returns-3 c =
     (rw (c .before .before .before .whole-minutes .ensures) at (c .if2 .left))
 
 pub valid-at-spec : {M : Type 1} → statement M
-valid-at-spec = tie.close (tie.spec returns (λ c κs. search needs) returns-2 returns-3)
+valid-at-spec = tie.close (tie.spec returns (λ c κs. search needs) (λ c κs. search needs) returns-2 returns-3)
