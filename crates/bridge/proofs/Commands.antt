@@ -16,11 +16,11 @@ use Rattle.control.proofs.Reading.{control-read}
 use Rattle.control.specs.declared.Command.{Command}
 use Rattle.control.specs.declared.ControlRead.the-variants.{Accepted as ControlAccepted, Refused as ControlRefused}
 use Rattle.session.specs.Session.{connectionRemembering}
-use Rattle.envelope.specs.Blocks.{blocksIn, packetNonce, cleared}
+use Rattle.envelope.specs.Blocks.{blocksIn, nonceNumber, cleared}
 use Rattle.envelope.specs.Characteristic.{characteristicRules, packetIn}
 use Rattle.envelope.proofs.Envelopes.{length-deciphered}
 use Rattle.envelope.proofs.Unsealed.{packet-sized}
-use Rattle.bridge.specs.Characteristic.{levelKey, packetEntryRules, packetText, packetTextRules, packetOpenRules, acceptedCommand, characteristicAnswerOf, connectionAfter, characteristicOpened, characteristicWorkAfter}
+use Rattle.bridge.specs.Characteristic.{levelKey, connectionRules, packetEntryRules, packetText, packetTextRules, packetOpenRules, acceptedCommand, characteristicAnswerOf, packetPassRules, connectionAfter, characteristicOpened, characteristicWorkAfter}
 use Rattle.bridge.specs.Opening.{refusedCommand, commandAnswerBy, commandTextAnswer, textConnection, openedCommandAs, commandTextOpened, commandWorkBy}
 use Rattle.bridge.proofs.Judging.{judge-stop, blocks-whole, stopped-before, accepted-behind, refused-behind}
 use Rattle.bridge.specs.declared.Link.{Link}
@@ -61,10 +61,10 @@ module _ (k : Link) (p work : List ℕ) where
   unfolding characteristicAnswerOf packetOpenRules commandTextAnswer
   halves = judge-append refusedCommand (packetEntryRules k (length work) p) (packetTextRules k (getD p 3 0) (packetText k p)) (acceptedCommand (packetText k p))
 
-  connection-halves : connectionAfter k (length work) p ≡ judge (λ n. k .connection) (packetEntryRules k (length work) p) (textConnection k (packetNonce p) (packetText k p))
-  unfolding connectionAfter textConnection
+  connection-halves : connectionAfter k (length work) p ≡ judge (λ n. k .connection) (packetEntryRules k (length work) p) (textConnection k (nonceNumber p) (packetText k p))
+  unfolding connectionAfter packetPassRules textConnection
   connection-halves =
-      judge-append (λ n. k .connection) (packetEntryRules k (length work) p) (characteristicRules (k .connection .validation) (packetText k p)) (connectionRemembering (k .connection) (packetNonce p))
+      judge-append (λ n. k .connection) (packetEntryRules k (length work) p) (characteristicRules (k .connection .validation) (packetText k p)) (connectionRemembering (k .connection) (nonceNumber p))
 
   -- refused before it is deciphered
   pub refused-before : {n : ℕ} → n ≡ firstBroken (packetEntryRules k (length work) p) → (n ≡ 0 → ⊥)
@@ -74,12 +74,12 @@ module _ (k : Link) (p work : List ℕ) where
       let entry = packetEntryRules k (length work) p in
       let t = packetText k p in
       let s = stopped-before refusedCommand (acceptedCommand t) entry (packetTextRules k (getD p 3 0) t) (blocksIn p) t work e h in
-      (ap₂ openedCommandAs (s .0 ∙ sym halves) (sym (connection-halves ∙ judge-stop (λ n. k .connection) entry (textConnection k (packetNonce p) t) n e h)), s .1)
+      (ap₂ openedCommandAs (s .0 ∙ sym halves) (sym (connection-halves ∙ judge-stop (λ n. k .connection) entry (textConnection k (nonceNumber p) t) n e h)), s .1)
 
   module _ (entered : firstBroken (packetEntryRules k (length work) p) ≡ 0) where
     pub whole : (length p ≡ 4 + 16 * blocksIn p) × (16 * blocksIn p ≤ length work)
     unfolding packetEntryRules
-    whole = blocks-whole p (length work) (drop 2 (packetEntryRules k (length work) p)) entered
+    whole = blocks-whole p (length work) (connectionRules k p) entered
 
     pub long : length (packetText k p) ≡ 16 * blocksIn p
     unfolding packetText
@@ -112,7 +112,7 @@ module _ (k : Link) (p work : List ℕ) where
     left-after (Refused r) e w q z = refused-after e w q z
 
     -- either, by the answer; and the connection
-    pub answered-after : {r : OpenedCommand} {before after : List ℕ} {n : ℕ} → r ≡ commandTextOpened k (getD p 3 0) (packetNonce p) (packetText k p)
+    pub answered-after : {r : OpenedCommand} {before after : List ℕ} {n : ℕ} → r ≡ commandTextOpened k (getD p 3 0) (nonceNumber p) (packetText k p)
         → before ≡ packetText k p ++ drop (16 * blocksIn p) work → n ≡ 16 * blocksIn p → after ≡ commandWorkBy n before (r .answer)
         → (r ≡ characteristicOpened k (length work) p) × (after ≡ characteristicWorkAfter k p work)
     unfolding characteristicOpened
@@ -120,6 +120,6 @@ module _ (k : Link) (p work : List ℕ) where
         let entry = packetEntryRules k (length work) p in
         let t = packetText k p in (
           e ∙ ap₂ openedCommandAs (sym (halves ∙ judge-pass refusedCommand entry (commandTextAnswer k (getD p 3 0) t) entered))
-              (sym (connection-halves ∙ judge-pass (λ n. k .connection) entry (textConnection k (packetNonce p) t) entered)),
+              (sym (connection-halves ∙ judge-pass (λ n. k .connection) entry (textConnection k (nonceNumber p) t) entered)),
           left-after (r .answer) (ap (λ (x : OpenedCommand). x .answer) e) w q z .1,
         )

@@ -18,10 +18,10 @@ use Rattle.message.specs.declared.Message.{Message}
 use Rattle.message.specs.declared.Message.the-variants.{Hello, SessionNonce, Heartbeat, Status, GetMac, Control, HubReply}
 use Rattle.message.specs.declared.MessageRead.the-variants.{Accepted as ReadAccepted, Refused as ReadRefused}
 use Rattle.session.specs.Session.{sessionRemembering}
-use Rattle.envelope.specs.Blocks.{blocksIn, packetNonce, cleared}
+use Rattle.envelope.specs.Blocks.{blocksIn, nonceNumber, cleared}
 use Rattle.envelope.specs.Sealed.{lateRules, messageIn}
 use Rattle.envelope.proofs.Envelopes.{length-deciphered}
-use Rattle.bridge.specs.Opener.{plainRules, acceptedMessage, uartEntryRules, uartText, uartTextRules, headRules, uartOpenRules, answerOf, sessionBy, sessionAfter, opened, workAfter, adminKey}
+use Rattle.bridge.specs.Opener.{plainRules, acceptedMessage, sessionRules, uartEntryRules, uartText, uartTextRules, headRules, uartPassRules, uartOpenRules, answerOf, sessionBy, sessionAfter, opened, workAfter, adminKey}
 use Rattle.bridge.specs.Opening.{refusedAnswer, answerBy, sessionByAnswer, plainAnswer, plainSession, textAnswer, textSession, sealedAnswer, sealedSession, openedAs, plainOpened, textOpened, sealedOpened, sealedWork, blocksAfter, workBy}
 use Rattle.bridge.proofs.Judging.{judge-stop, blocks-whole, stopped-before, accepted-behind, refused-behind}
 use Rattle.bridge.specs.declared.Context.{Context}
@@ -69,7 +69,7 @@ some-broken (suc n) l e z = omega arith
 module _ (g : Context) (p work : List ℕ) (entered : firstBroken (uartEntryRules g (length work) p) ≡ 0) where
   pub whole : (length p ≡ 4 + 16 * blocksIn p) × (16 * blocksIn p ≤ length work)
   unfolding uartEntryRules
-  whole = blocks-whole p (length work) (drop 2 (uartEntryRules g (length work) p)) entered
+  whole = blocks-whole p (length work) (sessionRules g p) entered
 
   pub long : length (uartText g p) ≡ 16 * blocksIn p
   unfolding uartText
@@ -99,14 +99,14 @@ module _ (g : Context) (p work : List ℕ) (entered : firstBroken (uartEntryRule
   left-after (Refused r) e w q c = refused-after e w q c
 
   -- either, by the answer; and the session
-  pub answered-after : {r : Opened} {before after : List ℕ} {k : ℕ} → r ≡ textOpened g (packetNonce p) (uartText g p)
+  pub answered-after : {r : Opened} {before after : List ℕ} {k : ℕ} → r ≡ textOpened g (nonceNumber p) (uartText g p)
       → before ≡ uartText g p ++ drop (16 * blocksIn p) work → k ≡ 16 * blocksIn p → after ≡ workBy k before (r .answer)
       → (r ≡ sealedOpened g (length work) p) × (after ≡ sealedWork g p work)
   unfolding sealedAnswer sealedSession
   answered-after {r} e w q c =
       let entry = uartEntryRules g (length work) p in
       let t = uartText g p in (
-        e ∙ ap₂ openedAs (sym (judge-pass refusedAnswer entry (textAnswer g t) entered)) (sym (judge-pass (λ n. g .session) entry (textSession g (packetNonce p) t) entered)),
+        e ∙ ap₂ openedAs (sym (judge-pass refusedAnswer entry (textAnswer g t) entered)) (sym (judge-pass (λ n. g .session) entry (textSession g (nonceNumber p) t) entered)),
         left-after (r .answer) (ap (λ (x : Opened). x .answer) e) w q c .1,
       )
 
@@ -118,7 +118,7 @@ refused-before g p work n e h =
     let entry = uartEntryRules g (length work) p in
     let t = uartText g p in
     let s = stopped-before refusedAnswer (acceptedMessage true 6 (messageIn t)) entry (uartTextRules g t) (blocksIn p) t work e h in
-    (ap₂ openedAs (s .0) (sym (judge-stop (λ n. g .session) entry (textSession g (packetNonce p) t) n e h)), s .1)
+    (ap₂ openedAs (s .0) (sym (judge-stop (λ n. g .session) entry (textSession g (nonceNumber p) t) n e h)), s .1)
 
 -- the session after a plain message, by its answer
 pub plain-session : (g : Context) (p : List ℕ) → sessionByAnswer g (plainAnswer g p) ≡ plainSession g p
@@ -137,10 +137,10 @@ module _ (g : Context) (room : ℕ) (p : List ℕ) where
   plain-frame = refl
 
   pub sealed-opened : sealedOpened g room p ≡ opened g room 1 128 p
-  unfolding opened sealedSession textSession sessionAfter
+  unfolding opened sealedSession textSession sessionAfter uartPassRules
   sealed-opened =
       ap₂ openedAs sealed-frame
-      (sym (judge-append (λ n. g .session) (uartEntryRules g room p) (lateRules (uartText g p)) (sessionRemembering (g .session) (packetNonce p))))
+      (sym (judge-append (λ n. g .session) (uartEntryRules g room p) (lateRules (uartText g p)) (sessionRemembering (g .session) (nonceNumber p))))
 
   pub plain-opened : plainOpened g p ≡ opened g room 1 0 p
   unfolding opened plainSession sessionAfter
@@ -157,11 +157,11 @@ plain-left g p work = refl
 -- 5, and 6
 pub wrong-major : (g : Context) (room major wrapper : ℕ) (p work : List ℕ) → (major ≡ 1 → ⊥)
     → (openedAs (refusedAnswer 5) (g .session) ≡ opened g room major wrapper p) × (work ≡ workAfter g major wrapper p work)
-unfolding opened answerOf uartOpenRules sessionAfter workAfter
+unfolding opened answerOf uartOpenRules sessionAfter uartPassRules workAfter
 wrong-major g room major wrapper p work h = (ap₂ openedAs (simp (ne-eqb _ _ h)) (same-session (eqb wrapper 128)), same-work (eqb wrapper 128))
   where
     same-session : (b : Bool) → g .session ≡ pick b
-        (judge (λ n. g .session) (headRules major wrapper ++ (uartEntryRules g room p ++ lateRules (uartText g p))) (sessionRemembering (g .session) (packetNonce p)))
+        (judge (λ n. g .session) (uartPassRules g room major wrapper p) (sessionRemembering (g .session) (nonceNumber p)))
         (judge (λ n. g .session) (headRules major wrapper ++ plainRules g p) (sessionBy g (messageAt p)))
     same-session true = simp (ne-eqb _ _ h)
     same-session false = simp (ne-eqb _ _ h)
@@ -173,6 +173,6 @@ wrong-major g room major wrapper p work h = (ap₂ openedAs (simp (ne-eqb _ _ h)
 
 pub wrong-wrapper : (g : Context) (room wrapper : ℕ) (p work : List ℕ) → (wrapper ≡ 128 → ⊥) → (wrapper ≡ 0 → ⊥)
     → (openedAs (refusedAnswer 6) (g .session) ≡ opened g room 1 wrapper p) × (work ≡ workAfter g 1 wrapper p work)
-unfolding opened answerOf uartOpenRules sessionAfter workAfter
+unfolding opened answerOf uartOpenRules sessionAfter uartPassRules workAfter
 wrong-wrapper g room wrapper p work h k =
     (ap₂ openedAs (simp (ne-eqb _ _ k, ne-eqb _ _ h)) (simp (ne-eqb _ _ k, ne-eqb _ _ h)), simp (ne-eqb _ _ h))

@@ -16,7 +16,7 @@ use Rattle.session.specs.Keys.{keyForNumber}
 use Rattle.session.specs.Session.{connectionThere, connectionRemembering}
 use Rattle.session.specs.declared.Connection.{Connection}
 use Rattle.session.specs.declared.Key.{Key}
-use Rattle.envelope.specs.Blocks.{blocksIn, deciphered, packetNonce, nonceRule}
+use Rattle.envelope.specs.Blocks.{blocksIn, deciphered, nonceNumber, nonceRule}
 use Rattle.envelope.specs.Characteristic.{characteristicRules, packetIn}
 use Rattle.bridge.specs.Opener.{blockRules}
 use Rattle.bridge.specs.Reply.{characteristicRefusal}
@@ -37,16 +37,17 @@ accessFor (Known l) = Keyed l
 accessFor Unknown = UnknownAccess
 
 -- ---- the rules
--- 10: no key held for the level in this mode; 8: no connection session
-unfoldable pub connectionRules : Link → ℕ → List Rule
-connectionRules k level =
-    (10 when not (keyForNumber (k .keys) (k .mode) level .held))
+-- 10: no key held for the level in this mode; 8: no connection session; 28: a packet nonce used again
+unfoldable pub connectionRules : Link → List ℕ → List Rule
+connectionRules k p =
+    (10 when not (levelKey k p .held))
     ∷ (8 when not (connectionThere (k .connection)))
+    ∷ nonceRule (k .connection .memory) p
     ∷ []
 
 -- a packet before it is deciphered: 7, 25, 10, 8, 28
 unfoldable pub packetEntryRules : Link → ℕ → List ℕ → List Rule
-packetEntryRules k room p = blockRules p room ++ (connectionRules k (getD p 3 0) ++ (nonceRule (k .connection .memory) p ∷ []))
+packetEntryRules k room p = blockRules p room ++ connectionRules k p
 
 -- its blocks deciphered
 unfoldable pub packetText : Link → List ℕ → List ℕ
@@ -57,6 +58,10 @@ unfoldable pub packetTextRules : Link → ℕ → List ℕ → List Rule
 packetTextRules k level text =
     characteristicRules (k .connection .validation) text
     ++ commandRules (packetIn text) (k .mode) (accessFor (levelOf level))
+
+-- all of a packet up to 13: what breaks none of them is remembered
+unfoldable pub packetPassRules : Link → ℕ → List ℕ → List Rule
+packetPassRules k room p = packetEntryRules k room p ++ characteristicRules (k .connection .validation) (packetText k p)
 
 -- all rules of a packet
 unfoldable pub packetOpenRules : Link → ℕ → List ℕ → List Rule
@@ -78,8 +83,7 @@ characteristicWorkAfter k p work =
 -- ---- the connection session after it: where the packet passed all of 10 to 13, also when 19 to 24 refuse it later, its packet nonce is remembered
 unfoldable pub connectionAfter : Link → ℕ → List ℕ → Connection
 connectionAfter k room p =
-    judge (λ n. k .connection) (packetEntryRules k room p ++ characteristicRules (k .connection .validation) (packetText k p))
-    (connectionRemembering (k .connection) (packetNonce p))
+    judge (λ n. k .connection) (packetPassRules k room p) (connectionRemembering (k .connection) (nonceNumber p))
 
 unfoldable pub characteristicOpened : Link → ℕ → List ℕ → OpenedCommand
 characteristicOpened k room p = record { answer = characteristicAnswerOf k room p; connection = connectionAfter k room p }

@@ -19,7 +19,7 @@ use Rattle.session.specs.Session.{sessionThere, withNonce, validAt, sessionReme
 use Rattle.session.specs.Keys.{keyFor}
 use Rattle.session.specs.declared.Key.{Key}
 use Rattle.session.specs.declared.Session.{Session}
-use Rattle.envelope.specs.Blocks.{blocksIn, deciphered, lengthRule, roomRule, packetNonce, nonceRule}
+use Rattle.envelope.specs.Blocks.{blocksIn, deciphered, lengthRule, roomRule, nonceNumber, nonceRule}
 use Rattle.envelope.specs.Sealed.{lateRules, messageIn}
 use Rattle.bridge.specs.Reply.{refusalOf}
 use Rattle.bridge.specs.Place.{placeFrom}
@@ -51,17 +51,18 @@ adminKey g = keyFor (g .keys) (g .mode) Admin
 abbrev pub blockRules : List ℕ → ℕ → List Rule
 blockRules p room = lengthRule p ∷ roomRule p room ∷ []
 
--- 10: key ID not 0, or no admin key held in this mode; 8: no session; 9: session run out
-unfoldable pub sessionRules : Context → ℕ → List Rule
-sessionRules g id =
-    (10 when (not (eqb id 0) || not (adminKey g .held)))
+-- 10: key ID not 0, or no admin key held in this mode; 8: no session; 9: session run out; 28: a packet nonce used again
+unfoldable pub sessionRules : Context → List ℕ → List Rule
+sessionRules g p =
+    (10 when (not (eqb (getD p 3 0) 0) || not (adminKey g .held)))
     ∷ (8 when not (sessionThere (g .session)))
     ∷ (9 when not (validAt (g .session) (g .time)))
+    ∷ nonceRule (g .session .memory) p
     ∷ []
 
 -- an encrypted message before it is deciphered: 7, 25, 10, 8, 9, 28
 unfoldable pub uartEntryRules : Context → ℕ → List ℕ → List Rule
-uartEntryRules g room p = blockRules p room ++ (sessionRules g (getD p 3 0) ++ (nonceRule (g .session .memory) p ∷ []))
+uartEntryRules g room p = blockRules p room ++ sessionRules g p
 
 -- the blocks of an encrypted message deciphered
 unfoldable pub uartText : Context → List ℕ → List ℕ
@@ -70,6 +71,10 @@ uartText g p = deciphered (adminKey g .bytes) (g .session .nonce) p
 -- of the deciphered blocks: 11, 12; then 14 to 24
 unfoldable pub uartTextRules : Context → List ℕ → List Rule
 uartTextRules g text = lateRules text ++ messageRules Encrypted (g .required) (g .mode) (messageIn text)
+
+-- all of an encrypted message up to 13: what breaks none of them is remembered
+unfoldable pub uartPassRules : Context → ℕ → ℕ → ℕ → List ℕ → List Rule
+uartPassRules g room major wrapper p = headRules major wrapper ++ (uartEntryRules g room p ++ lateRules (uartText g p))
 
 -- all rules of a frame
 unfoldable pub uartOpenRules : Context → ℕ → ℕ → ℕ → List ℕ → List Rule
@@ -99,11 +104,12 @@ sessionBy g GetMac = g .session
 sessionBy g (Control c) = g .session
 sessionBy g (HubReply f) = g .session
 
--- an encrypted message, never a session nonce (16): where it passed all of 10 to 12, also when 14 to 24 refuse it later, its packet nonce is remembered
+-- an encrypted message, never a session nonce (16): where it passed all of 10 to 13 (a frame has no 13), also when 14 to 24 refuse it later,
+-- its packet nonce is remembered
 unfoldable pub sessionAfter : Context → ℕ → ℕ → ℕ → List ℕ → Session
 sessionAfter g room major wrapper p =
     pick (eqb wrapper 128)
-    (judge (λ n. g .session) (headRules major wrapper ++ (uartEntryRules g room p ++ lateRules (uartText g p))) (sessionRemembering (g .session) (packetNonce p)))
+    (judge (λ n. g .session) (uartPassRules g room major wrapper p) (sessionRemembering (g .session) (nonceNumber p)))
     (judge (λ n. g .session) (headRules major wrapper ++ plainRules g p) (sessionBy g (messageAt p)))
 
 unfoldable pub opened : Context → ℕ → ℕ → ℕ → List ℕ → Opened

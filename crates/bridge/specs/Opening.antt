@@ -13,7 +13,7 @@ use Rattle.control.specs.declared.ControlRead.the-variants.{Accepted as Control
 use Rattle.session.specs.Session.{sessionRemembering, connectionRemembering}
 use Rattle.session.specs.declared.Session.{Session}
 use Rattle.session.specs.declared.Connection.{Connection}
-use Rattle.envelope.specs.Blocks.{blocksIn, packetNonce, cleared}
+use Rattle.envelope.specs.Blocks.{blocksIn, nonceNumber, cleared}
 use Rattle.envelope.specs.Sealed.{lateRules, messageIn}
 use Rattle.envelope.specs.Characteristic.{characteristicRules}
 use Rattle.bridge.specs.Reply.{refusalOf, characteristicRefusal}
@@ -37,38 +37,40 @@ abbrev pub answerBy : Bool → ℕ → ℕ → MessageRead → Answer
 answerBy inWork start end (ReadAccepted m) = Accepted m (placeFrom inWork (start + (2 + partsAt m)) end)
 answerBy inWork start end (ReadRefused n) = refusedAnswer n
 
--- a plain message; what an encrypted one deciphered to; an encrypted one: the answer, and the session after it
+abbrev pub openedAs : Answer → Session → Opened
+openedAs a s = record { answer = a; session = s }
+
+-- a plain message: the answer, and the session after it
 unfoldable pub plainAnswer : Context → List ℕ → Answer
 plainAnswer g p = judge refusedAnswer (plainRules g p) (acceptedMessage false 0 p)
-
--- by the answer
-abbrev pub sessionByAnswer : Context → Answer → Session
-sessionByAnswer g (Accepted m at) = sessionBy g m
-sessionByAnswer g (Refused r) = g .session
-
-unfoldable pub textAnswer : Context → List ℕ → Answer
-textAnswer g text = judge refusedAnswer (uartTextRules g text) (acceptedMessage true 6 (messageIn text))
-
-unfoldable pub sealedAnswer : Context → ℕ → List ℕ → Answer
-sealedAnswer g room p = judge refusedAnswer (uartEntryRules g room p) (textAnswer g (uartText g p))
 
 unfoldable pub plainSession : Context → List ℕ → Session
 plainSession g p = judge (λ n. g .session) (plainRules g p) (sessionBy g (messageAt p))
 
-unfoldable pub textSession : Context → ℕ → List ℕ → Session
-textSession g nonce text = judge (λ n. g .session) (lateRules text) (sessionRemembering (g .session) nonce)
-
-unfoldable pub sealedSession : Context → ℕ → List ℕ → Session
-sealedSession g room p = judge (λ n. g .session) (uartEntryRules g room p) (textSession g (packetNonce p) (uartText g p))
-
-abbrev pub openedAs : Answer → Session → Opened
-openedAs a s = record { answer = a; session = s }
-
 abbrev pub plainOpened : Context → List ℕ → Opened
 plainOpened g p = openedAs (plainAnswer g p) (plainSession g p)
 
+-- that session as the code has it, by the answer
+abbrev pub sessionByAnswer : Context → Answer → Session
+sessionByAnswer g (Accepted m at) = sessionBy g m
+sessionByAnswer g (Refused r) = g .session
+
+-- what an encrypted message deciphered to, with the number of its packet nonce
+unfoldable pub textAnswer : Context → List ℕ → Answer
+textAnswer g text = judge refusedAnswer (uartTextRules g text) (acceptedMessage true 6 (messageIn text))
+
+unfoldable pub textSession : Context → ℕ → List ℕ → Session
+textSession g number text = judge (λ n. g .session) (lateRules text) (sessionRemembering (g .session) number)
+
 abbrev pub textOpened : Context → ℕ → List ℕ → Opened
-textOpened g nonce text = openedAs (textAnswer g text) (textSession g nonce text)
+textOpened g number text = openedAs (textAnswer g text) (textSession g number text)
+
+-- an encrypted message
+unfoldable pub sealedAnswer : Context → ℕ → List ℕ → Answer
+sealedAnswer g room p = judge refusedAnswer (uartEntryRules g room p) (textAnswer g (uartText g p))
+
+unfoldable pub sealedSession : Context → ℕ → List ℕ → Session
+sealedSession g room p = judge (λ n. g .session) (uartEntryRules g room p) (textSession g (nonceNumber p) (uartText g p))
 
 abbrev pub sealedOpened : Context → ℕ → List ℕ → Opened
 sealedOpened g room p = openedAs (sealedAnswer g room p) (sealedSession g room p)
@@ -99,15 +101,15 @@ commandAnswerBy end (ControlRefused n) = refusedCommand n
 unfoldable pub commandTextAnswer : Link → ℕ → List ℕ → CommandAnswer
 commandTextAnswer k level text = judge refusedCommand (packetTextRules k level text) (acceptedCommand text)
 
--- the connection session after what a packet deciphered to
+-- and the connection session after it, with the number of its packet nonce
 unfoldable pub textConnection : Link → ℕ → List ℕ → Connection
-textConnection k nonce text = judge (λ n. k .connection) (characteristicRules (k .connection .validation) text) (connectionRemembering (k .connection) nonce)
+textConnection k number text = judge (λ n. k .connection) (characteristicRules (k .connection .validation) text) (connectionRemembering (k .connection) number)
 
 abbrev pub openedCommandAs : CommandAnswer → Connection → OpenedCommand
 openedCommandAs a c = record { answer = a; connection = c }
 
 abbrev pub commandTextOpened : Link → ℕ → ℕ → List ℕ → OpenedCommand
-commandTextOpened k level nonce text = openedCommandAs (commandTextAnswer k level text) (textConnection k nonce text)
+commandTextOpened k level number text = openedCommandAs (commandTextAnswer k level text) (textConnection k number text)
 
 abbrev pub commandWorkBy : ℕ → List ℕ → CommandAnswer → List ℕ
 commandWorkBy n work (CommandAccepted c at) = work

@@ -19,17 +19,18 @@ ghost use Rattle.envelope.specs.Blocks.{blocksIn};
 ghost use Rattle.bridge.specs.Characteristic as specs;
 ghost use Rattle.bridge.specs.Opening as opening;
 
-// 10 and 8, or 0.
-fn connection_refusal(link: Link, level: u8) -> u8
-    ensures { λ r. ⌜ r ≡ firstBroken (specs.connectionRules link level) ⌝ }
+// 10, 8 and 28, or 0.
+fn connection_refusal(link: Link, packet: &[u8]) -> u8
+    ensures { λ r. ⌜ r ≡ firstBroken (specs.connectionRules link (now (packet .entry))) ⌝ }
 {
     let keys = link.keys;
     let mode = link.mode;
-    let key = keys.serving_number(mode, level);
+    let key = keys.serving_number(mode, wire::byte_at(packet, 3));
     if key.held {
         let connection = link.connection;
         if connection.is_there() {
-            return 0;
+            let memory = connection.memory;
+            return envelope::judge_nonce(memory, packet);
         }
         return 8;
     }
@@ -44,13 +45,7 @@ fn entry_refusal(packet: &[u8], room: usize, link: Link) -> u8
     if early != 0 {
         return early;
     }
-    let number = connection_refusal(link, wire::byte_at(packet, 3));
-    if number != 0 {
-        return number;
-    }
-    let connection = link.connection;
-    let memory = connection.memory;
-    envelope::judge_nonce(memory, packet)
+    connection_refusal(link, packet)
 }
 
 // A level's access.
@@ -100,9 +95,10 @@ fn refused(number: u8, link: Link) -> OpenedCommand
     OpenedCommand { answer, connection }
 }
 
-// What a packet deciphered to: 11, 18, 13, 19 to 24, or the command; and the connection session after it, which remembers the packet nonce unless 11, 18 or 13 is given.
-fn read_text(text: &[u8], level: u8, link: Link, packet_nonce: u32) -> OpenedCommand
-    ensures { λ r. ⌜ r ≡ opening.commandTextOpened link level «packet_nonce» (now (text .entry)) ⌝ }
+// What a packet deciphered to: 11, 18, 13, 19 to 24, or the command; and the connection session after it, which remembers the number of its packet nonce
+// unless 11, 18 or 13 is given.
+fn read_text(text: &[u8], level: u8, link: Link, number: u32) -> OpenedCommand
+    ensures { λ r. ⌜ r ≡ opening.commandTextOpened link level number (now (text .entry)) ⌝ }
 {
     let old = link.connection;
     let validation = old.validation;
@@ -116,7 +112,7 @@ fn read_text(text: &[u8], level: u8, link: Link, packet_nonce: u32) -> OpenedCom
         end_of(packet),
         control::read_control(packet, mode, access_for(level)),
     );
-    let connection = old.remember(packet_nonce);
+    let connection = old.remember(number);
     OpenedCommand { answer, connection }
 }
 
@@ -159,7 +155,7 @@ pub fn open(packet: &[u8], link: Link, work: &mut [u8]) -> OpenedCommand
         wire::part_of(work, blocks),
         wire::byte_at(packet, 3),
         link,
-        envelope::packet_nonce(packet),
+        envelope::nonce_number(packet),
     );
     let answer = opened.answer;
     clear_refused(answer, work, n);

@@ -20,7 +20,7 @@ ghost use Rattle.envelope.specs.Blocks.{blocksIn};
 ghost use Rattle.bridge.specs.Opener as specs;
 ghost use Rattle.bridge.specs.Opening as opening;
 
-// The session after an accepted message: only a session nonce changes it.
+// The session after an accepted plain message: only a session nonce changes it.
 fn session_by(context: Context, m: Message) -> Session
     ensures { λ s. ⌜ s ≡ specs.sessionBy context m ⌝ }
 {
@@ -113,11 +113,11 @@ fn open_plain(payload: &[u8], context: Context) -> Opened
     Opened { answer, session }
 }
 
-// 10, 8 and 9, or 0.
-fn session_refusal(context: Context, id: u8) -> u8
-    ensures { λ r. ⌜ r ≡ firstBroken (specs.sessionRules context id) ⌝ }
+// 10, 8, 9 and 28, or 0.
+fn session_refusal(context: Context, payload: &[u8]) -> u8
+    ensures { λ r. ⌜ r ≡ firstBroken (specs.sessionRules context (now (payload .entry))) ⌝ }
 {
-    if id != 0 {
+    if wire::byte_at(payload, 3) != 0 {
         return 10;
     }
     let keys = context.keys;
@@ -127,7 +127,8 @@ fn session_refusal(context: Context, id: u8) -> u8
         let session = context.session;
         if session.is_there() {
             if session.valid_at(context.time) {
-                return 0;
+                let memory = session.memory;
+                return envelope::judge_nonce(memory, payload);
             }
             return 9;
         }
@@ -144,13 +145,7 @@ fn entry_refusal(payload: &[u8], room: usize, context: Context) -> u8
     if early != 0 {
         return early;
     }
-    let number = session_refusal(context, wire::byte_at(payload, 3));
-    if number != 0 {
-        return number;
-    }
-    let session = context.session;
-    let memory = session.memory;
-    envelope::judge_nonce(memory, payload)
+    session_refusal(context, payload)
 }
 
 // Where a message ends that stands behind CAFEBABE and its size.
@@ -161,9 +156,10 @@ fn end_of(m: &[u8]) -> usize
     6 + m.len()
 }
 
-// What an encrypted message deciphered to: 11, 12, 14 to 24, or the message; and the session after it, which remembers the packet nonce unless 11 or 12 is given.
-fn read_text(text: &[u8], context: Context, packet_nonce: u32) -> Opened
-    ensures { λ r. ⌜ r ≡ opening.textOpened context «packet_nonce» (now (text .entry)) ⌝ }
+// What an encrypted message deciphered to: 11, 12, 14 to 24, or the message; and the session after it, which remembers the number of its packet nonce unless
+// 11 or 12 is given.
+fn read_text(text: &[u8], context: Context, number: u32) -> Opened
+    ensures { λ r. ⌜ r ≡ opening.textOpened context number (now (text .entry)) ⌝ }
 {
     let late = envelope::judge_text(text);
     if late != 0 {
@@ -178,7 +174,7 @@ fn read_text(text: &[u8], context: Context, packet_nonce: u32) -> Opened
         message::read_message(m, Form::Encrypted, context.required, mode),
     );
     let old = context.session;
-    let session = old.remember(packet_nonce);
+    let session = old.remember(number);
     Opened { answer, session }
 }
 
@@ -221,7 +217,7 @@ fn open_sealed(payload: &[u8], context: Context, work: &mut [u8]) -> Opened
     let opened = read_text(
         wire::part_of(work, blocks),
         context,
-        envelope::packet_nonce(payload),
+        envelope::nonce_number(payload),
     );
     let answer = opened.answer;
     clear_refused(answer, work, n);

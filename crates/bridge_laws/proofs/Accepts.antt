@@ -2,14 +2,14 @@
 use mathlib.Core.Path.{_≡_, refl, ap, _∙_}
 use mathlib.Core.Logic.{_⊎_, inl, inr, ⊎-elim}
 use mathlib.Core.Bool.{Bool, true, false, not, _||_}
-use mathlib.Core.List.{List, [], _∷_, _++_}
+use mathlib.Core.List.{List, _∷_, _++_}
 use Prim.Native.Nat.{ℕ, _+_, _*_}
 use native.Mathlib.Omega.{arith}
 use lib.ListN.{length, getD, take}
 use lib.Dec.{eqb, ltb}
 use borrow.Author.Tests.{le-ltb, ltb-false, eq-eqb, ne-eqb, eqb-true, not-false}
 use Rattle.wire.specs.Choice.{pick}
-use Rattle.wire.specs.Rules.{Rule, _when_, firstBroken, Exactly}
+use Rattle.wire.specs.Rules.{_when_, firstBroken, Exactly}
 use Rattle.wire.proofs.Choice.{or-fails}
 use Rattle.wire.proofs.Rules.{first-none, first-right, none-append}
 use Rattle.wire.proofs.Held.{held}
@@ -21,7 +21,7 @@ use Rattle.control.proofs.Reading.{control-accepts, control-clear}
 use Rattle.message.specs.Reading.{messageRules}
 use Rattle.message.proofs.Accepts.{message-accepts, message-clear}
 use Rattle.message.specs.declared.Form.the-variants.{Plain, Encrypted}
-use Rattle.envelope.specs.Blocks.{outside, wrongLength, nonceRule, notLeast, blocksIn}
+use Rattle.envelope.specs.Blocks.{outside, wrongLength, notLeast, blocksIn}
 use Rattle.envelope.specs.Sealed.{messageSize, lateRules, messageIn}
 use Rattle.envelope.specs.Characteristic.{characteristicRules, packetIn}
 use Rattle.bridge.specs.Opener.{adminKey, headRules, plainRules, blockRules, sessionRules, uartEntryRules, uartText, uartTextRules, uartOpenRules, acceptedMessage, answerOf, opened}
@@ -68,19 +68,15 @@ module _ (g : Context) (p : List ℕ) where
       let e : (ltb (length p) 2 || ltb 507 (length p)) ≡ false = rw (le-ltb (length p) 2 (w .some)) (le-ltb 507 (length p) (w .most)) in
       ap (λ (b : Bool). firstBroken ((7 when b) ∷ messageRules Plain (g .required) (g .mode) p)) e ∙ message-clear Plain (g .required) (g .mode) p (w .message)
 
-  -- an encrypted message behind 7 and 25: 10, 8, 9, 28
-  abbrev sessionAndNonce : List Rule
-  sessionAndNonce = sessionRules g (getD p 3 0) ++ (nonceRule (g .session .memory) p ∷ [])
-
   module _ (room : ℕ) where
     sealed-accepts : firstBroken (uartEntryRules g room p ++ uartTextRules g (uartText g p)) ≡ 0 → AcceptsSealed g room p
     unfolding uartEntryRules sessionRules uartTextRules lateRules notLeast
     sealed-accepts e =
         let t = uartText g p in
         let x = none-append (uartEntryRules g room p) (uartTextRules g t) e in
-        let y = none-append (blockRules p room) sessionAndNonce (x .0) in
+        let y = none-append (blockRules p room) (sessionRules g p) (x .0) in
         let z = none-append (lateRules t) (messageRules Encrypted (g .required) (g .mode) (messageIn t)) (x .1) in
-        let s = held sessionAndNonce (tt, (tt, (tt, (tt, tt)))) (y .1) in
+        let s = held (sessionRules g p) (tt, (tt, (tt, (tt, tt)))) (y .1) in
         let h = held (lateRules t) (tt, (tt, tt)) (z .0) in
         let k = or-fails (not (eqb (getD p 3 0) 0)) (not (adminKey g .held)) (s .0) in
         let o = or-fails (ltb (messageSize t) 2) (notLeast t (6 + messageSize t)) (h .1 .0) in
@@ -90,16 +86,16 @@ module _ (g : Context) (p : List ℕ) where
           key = not-false _ (k .1);
           session = not-false _ (s .1 .0);
           valid = not-false _ (s .1 .1 .0);
-          fresh = s .1 .1 .1 .0;
+          differs = s .1 .1 .1 .0;
           validation = eqb-true _ _ (not-false _ (h .0));
           size = ltb-false _ _ (o .0);
           least = eqb-true _ _ (not-false _ (o .1));
           message = message-accepts Encrypted (g .required) (g .mode) (messageIn t) (z .1);
         }
 
-    session-clear : AcceptsSealed g room p → firstBroken sessionAndNonce ≡ 0
+    session-clear : AcceptsSealed g room p → firstBroken (sessionRules g p) ≡ 0
     unfolding sessionRules
-    session-clear w = rw (eq-eqb _ _ (w .id), w .key, w .session, w .valid, w .fresh)
+    session-clear w = rw (eq-eqb _ _ (w .id), w .key, w .session, w .valid, w .differs)
 
     late-clear : AcceptsSealed g room p → firstBroken (lateRules (uartText g p)) ≡ 0
     unfolding lateRules notLeast
@@ -111,7 +107,7 @@ module _ (g : Context) (p : List ℕ) where
         let t = uartText g p in
         let rest = messageRules Encrypted (g .required) (g .mode) (messageIn t) in
         first-right (uartEntryRules g room p) (uartTextRules g t)
-        (first-right (blockRules p room) sessionAndNonce (blocks-clear p room (w .blocks)) ∙ session-clear w)
+        (first-right (blockRules p room) (sessionRules g p) (blocks-clear p room (w .blocks)) ∙ session-clear w)
         ∙ first-right (lateRules t) rest (late-clear w) ∙ message-clear Encrypted (g .required) (g .mode) (messageIn t) (w .message)
 
 module _ (g : Context) (room major wrapper : ℕ) (p : List ℕ) where
@@ -154,10 +150,6 @@ module _ (g : Context) (room major wrapper : ℕ) (p : List ℕ) where
 
 -- ---- a characteristic packet
 module _ (k : Link) (room : ℕ) (p : List ℕ) where
-  -- behind 7 and 25: 10, 8, 28
-  abbrev connectionAndNonce : List Rule
-  connectionAndNonce = connectionRules k (getD p 3 0) ++ (nonceRule (k .connection .memory) p ∷ [])
-
   packet-accepts : firstBroken (packetOpenRules k room p) ≡ 0 → AcceptsPacket k room p
   unfolding packetOpenRules packetEntryRules connectionRules packetTextRules characteristicRules notLeast
   packet-accepts e =
@@ -165,24 +157,24 @@ module _ (k : Link) (room : ℕ) (p : List ℕ) where
       let v = k .connection .validation in
       let a = accessFor (levelOf (getD p 3 0)) in
       let x = none-append (packetEntryRules k room p) (packetTextRules k (getD p 3 0) t) e in
-      let y = none-append (blockRules p room) connectionAndNonce (x .0) in
+      let y = none-append (blockRules p room) (connectionRules k p) (x .0) in
       let z = none-append (characteristicRules v t) (commandRules (packetIn t) (k .mode) a) (x .1) in
-      let s = held connectionAndNonce (tt, (tt, (tt, tt))) (y .1) in
+      let s = held (connectionRules k p) (tt, (tt, (tt, tt))) (y .1) in
       let h = held (characteristicRules v t) (tt, (tt, (tt, tt))) (z .0) in
       record {
         blocks = blocks-accepts p room (y .0);
         key = not-false _ (s .0);
         session = not-false _ (s .1 .0);
-        fresh = s .1 .1 .0;
+        differs = s .1 .1 .0;
         validation = same-bytes (take 4 t) v (not-false _ (h .0));
         least = eqb-true _ _ (not-false _ (h .1 .0));
         padding = not-false _ (h .1 .1 .0);
         packet = control-accepts (packetIn t) (k .mode) a (rw (eq-eqb _ _ (packet-whole v t (z .0))) (z .1));
       }
 
-  connection-clear : AcceptsPacket k room p → firstBroken connectionAndNonce ≡ 0
+  connection-clear : AcceptsPacket k room p → firstBroken (connectionRules k p) ≡ 0
   unfolding connectionRules
-  connection-clear w = rw (w .key, w .session, w .fresh)
+  connection-clear w = rw (w .key, w .session, w .differs)
 
   text-clear : AcceptsPacket k room p → firstBroken (characteristicRules (k .connection .validation) (packetText k p)) ≡ 0
   unfolding characteristicRules notLeast
@@ -195,7 +187,7 @@ module _ (k : Link) (room : ℕ) (p : List ℕ) where
       let a = accessFor (levelOf (getD p 3 0)) in
       let rest = commandRules (packetIn t) (k .mode) a in
       first-right (packetEntryRules k room p) (packetTextRules k (getD p 3 0) t)
-      (first-right (blockRules p room) connectionAndNonce (blocks-clear p room (w .blocks)) ∙ connection-clear w)
+      (first-right (blockRules p room) (connectionRules k p) (blocks-clear p room (w .blocks)) ∙ connection-clear w)
       ∙ first-right (characteristicRules (k .connection .validation) t) rest (text-clear w)
       ∙ none-append (lengthRules (packetIn t)) rest (control-clear (packetIn t) (k .mode) a (w .packet)) .1
 

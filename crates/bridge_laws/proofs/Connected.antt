@@ -3,15 +3,13 @@ use mathlib.Core.Path.{_≡_, _∙_, sym, ap}
 use mathlib.Core.List.{List}
 use Prim.Native.Nat.{ℕ}
 use lib.ListN.{length}
-use Rattle.wire.specs.Rules.{among}
 use Rattle.access.specs.Level.{levelNumber}
 use Rattle.access.specs.declared.Level.{Level}
 use Rattle.session.specs.Keys.{keyFor}
-use Rattle.session.specs.Memory.{remembered}
 use Rattle.session.specs.Session.{connectionThere, withData}
 use Rattle.session.specs.declared.Connection.{Connection}
 use Rattle.session.proofs.Kept.{data-there}
-use Rattle.envelope.specs.Blocks.{packetNonce}
+use Rattle.envelope.specs.Blocks.{usedAgain}
 use Rattle.envelope.specs.Characteristic.{characteristicImage}
 use Rattle.session_data.specs.SessionData.{dataKey}
 use Rattle.session_data.specs.declared.DataRead.{DataRead}
@@ -35,7 +33,7 @@ module _ (k : Link) (level : Level) (nonce validation pn packet : List ℕ) (h :
             (record {
               key = h .key;
               connection = ap connectionThere connection-is ∙ data-there (k .connection) nonce validation;
-              fresh = ap (λ (c : Connection). among (packetNonce pn) (remembered (c .memory))) connection-is ∙ h .fresh;
+              differs = ap (λ (c : Connection). usedAgain (c .memory) pn) connection-is ∙ h .differs;
               three = h .three;
               four = ap (λ (c : Connection). length (c .validation)) connection-is ∙ h .sized .four;
               most = h .most;

@@ -15,7 +15,7 @@ use Rattle.aes.proofs.Bytes.{listed-bytes}
 use Rattle.control.specs.Control.{commandAt, readControl}
 use Rattle.control.specs.declared.ControlRead.the-variants.{Accepted}
 use Rattle.session.specs.Keys.{noKey, keyFor}
-use Rattle.session.specs.Memory.{inLimits, remembered}
+use Rattle.session.specs.Memory.{limited, remembered}
 use Rattle.session.specs.Session.{memoryAfter, noConnection, connectionThere}
 use Rattle.session.specs.declared.Key.{Key}
 use Rattle.session_data.specs.SessionData.{dataKey}
@@ -46,8 +46,8 @@ packet = 5 ∷ 20 ∷ 0 ∷ 1 ∷ 0 ∷ 100 ∷ []
 supposed : (mode : Mode) (level : Level) → dataKey (link mode .keys) mode .held ≡ true → SixteenBytes (dataKey (link mode .keys) mode .bytes)
     → keyFor (link mode .keys) mode level .held ≡ true → readControl packet mode (Keyed level) ≡ Accepted (commandAt packet)
     → Connectable (link mode) level nonce validation (7 ∷ 8 ∷ 9 ∷ []) packet
-unfolding connectionThere memoryAfter inLimits remembered
-supposed mode level d b k r = record { data-key = d; data-bytes = b; sized = sized; key = k; fresh = refl; three = refl; most = omega arith; read = r }
+unfolding connectionThere memoryAfter limited remembered
+supposed mode level d b k r = record { data-key = d; data-bytes = b; sized = sized; key = k; differs = refl; three = refl; most = omega arith; read = r }
 
 in-normal : Connectable (link Normal) Member nonce validation (7 ∷ 8 ∷ 9 ∷ []) packet
 in-normal = supposed Normal Member refl (record { sixteen = refl; bytes = listed-bytes (replicate 16 2) 0 tt }) refl refl

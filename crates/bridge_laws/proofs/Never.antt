@@ -73,26 +73,33 @@ module _ (g : Context) (room : ℕ) (p : List ℕ) where
       go true = message-lacks-13 Encrypted (g .required) (g .mode) (messageIn (uartText g p))
       go false = message-lacks-13 Plain (g .required) (g .mode) p
 
-  -- the opener of frames gives neither
-  pub frame-never : (major wrapper : ℕ) → NoneOf (13 ∷ 22 ∷ []) (refusalNumber (opened g room major wrapper p .answer))
+  -- the number in an answer is that of the first broken rule
+  pub frame-number : (major wrapper : ℕ) → refusalNumber (opened g room major wrapper p .answer) ≡ firstBroken (uartOpenRules g room major wrapper p)
   unfolding opened answerOf
-  frame-never major wrapper =
-      let rules = uartOpenRules g room major wrapper p in
-      rw (number-given refusalNumber refusedAnswer rules
-      (pick (eqb wrapper 128) (acceptedMessage true 6 (messageIn (uartText g p))) (acceptedMessage false 0 p)) (λ n. refl) (zero (eqb wrapper 128)))
-      (never rules 12 (rules-lack-13 major wrapper), (rules-never major wrapper, tt))
+  frame-number major wrapper =
+      number-given refusalNumber refusedAnswer (uartOpenRules g room major wrapper p)
+      (pick (eqb wrapper 128) (acceptedMessage true 6 (messageIn (uartText g p))) (acceptedMessage false 0 p)) (λ n. refl) (zero (eqb wrapper 128))
     where
       zero : (b : Bool) → refusalNumber (pick b (acceptedMessage true 6 (messageIn (uartText g p))) (acceptedMessage false 0 p)) ≡ 0
       zero true = refl
       zero false = refl
 
+  -- the opener of frames gives neither
+  pub frame-never : (major wrapper : ℕ) → NoneOf (13 ∷ 22 ∷ []) (refusalNumber (opened g room major wrapper p .answer))
+  frame-never major wrapper =
+      rw (frame-number major wrapper) (never (uartOpenRules g room major wrapper p) 12 (rules-lack-13 major wrapper), (rules-never major wrapper, tt))
+
 -- ---- a characteristic packet: 5, 6, 9, 12 and 14 to 17 never
+pub packet-number : (k : Link) (room : ℕ) (p : List ℕ) → commandRefusalNumber (characteristicOpened k room p .answer) ≡ firstBroken (packetOpenRules k room p)
+unfolding characteristicOpened characteristicAnswerOf
+packet-number k room p = number-given commandRefusalNumber refusedCommand (packetOpenRules k room p) (acceptedCommand (packetText k p)) (λ n. refl) refl
+
 pub packet-never : (k : Link) (room : ℕ) (p : List ℕ)
     → NoneOf (5 ∷ 6 ∷ 9 ∷ 12 ∷ 14 ∷ 15 ∷ 16 ∷ 17 ∷ []) (commandRefusalNumber (characteristicOpened k room p .answer))
-unfolding characteristicOpened characteristicAnswerOf packetOpenRules packetEntryRules connectionRules packetTextRules characteristicRules
+unfolding packetOpenRules packetEntryRules connectionRules packetTextRules characteristicRules
 packet-never k room p =
     let rules = packetOpenRules k room p in
-    rw (number-given commandRefusalNumber refusedCommand rules (acceptedCommand (packetText k p)) (λ n. refl) refl) (
+    rw (packet-number k room p) (
       never rules 4 refl,
       (
         never rules 5 refl,

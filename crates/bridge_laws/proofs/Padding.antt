@@ -15,12 +15,12 @@ use Rattle.wire.proofs.Rules.{first-append, judge-pass}
 use Rattle.message.specs.Reading.{messageRules, tableContent}
 use Rattle.message.specs.declared.Form.the-variants.{Encrypted}
 use Rattle.aes.specs.Ctr.{blocksFor}
-use Rattle.envelope.specs.Blocks.{blocksIn, wrongLength, packetNonce}
+use Rattle.envelope.specs.Blocks.{blocksIn, wrongLength, nonceNumber}
 use Rattle.envelope.specs.Sealed.{unpadded, plainText, sealedImage, sealedWith, lateRules, messageIn}
 use Rattle.envelope.proofs.Envelopes.{length-enveloped, number-enveloped, id-enveloped, deciphered-enveloped}
 use Rattle.envelope.proofs.Unsealed.{length-with, size-with, late-with, message-with, zeros, zeros-fill}
 use Rattle.bridge.specs.Content.{uartGiven}
-use Rattle.bridge.specs.Opener.{adminKey, headRules, uartEntryRules, uartText, uartTextRules, uartOpenRules, acceptedMessage, answerOf, sessionAfter, opened, workAfter}
+use Rattle.bridge.specs.Opener.{uartPassRules, adminKey, headRules, uartEntryRules, uartText, uartTextRules, uartOpenRules, acceptedMessage, answerOf, sessionAfter, opened, workAfter, sessionRules}
 use Rattle.bridge.specs.Opening.{refusedAnswer, openedAs, blocksAfter}
 use Rattle.bridge.proofs.Contents.{opens-frame}
 use Rattle.bridge.specs.declared.Context.{Context}
@@ -29,9 +29,9 @@ use Rattle.bridge_laws.specs.Padding.{Fills, paddedWith, contentGiven, O
 use Rattle.bridge_laws.proofs.Accepts.{rules-clear}
 
 -- a frame is judged before it is deciphered by its length, its fourth byte and its packet nonce
-same-entry : (g : Context) (room : ℕ) (p q : List ℕ) → length p ≡ length q → getD p 3 0 ≡ getD q 3 0 → packetNonce p ≡ packetNonce q
+same-entry : (g : Context) (room : ℕ) (p q : List ℕ) → length p ≡ length q → getD p 3 0 ≡ getD q 3 0 → nonceNumber p ≡ nonceNumber q
     → uartEntryRules g room p ≡ uartEntryRules g room q
-unfolding uartEntryRules wrongLength
+unfolding uartEntryRules sessionRules wrongLength
 same-entry g room p q e d n = rw (e, d, n)
 
 -- the work buffer after a list of rules before n blocks are deciphered, and one behind it
@@ -69,7 +69,7 @@ module _ (g : Context) (pn m : List ℕ) (three-bytes : length pn ≡ 3) where
     unfolding sealedWith
     id-padded = id-enveloped key pn sn 0 (unpadded m ++ padding) three-bytes
 
-    nonce-padded : packetNonce p ≡ packetNonce pn
+    nonce-padded : nonceNumber p ≡ nonceNumber pn
     unfolding sealedWith
     nonce-padded = number-enveloped key pn sn 0 (unpadded m ++ padding) three-bytes
 
@@ -97,7 +97,7 @@ module _ (g : Context) (pn m : List ℕ) (three-bytes : length pn ≡ 3) where
     same-message : messageIn (uartText g pa) ≡ messageIn (uartText g pb)
     same-message = message-padded a fills-a ∙ sym (message-padded b fills-b)
 
-    same-nonce : packetNonce pa ≡ packetNonce pb
+    same-nonce : nonceNumber pa ≡ nonceNumber pb
     same-nonce = nonce-padded a fills-a ∙ sym (nonce-padded b fills-b)
 
     same-late : lateRules (uartText g pa) ≡ lateRules (uartText g pb)
@@ -121,7 +121,7 @@ module _ (g : Context) (pn m : List ℕ) (three-bytes : length pn ≡ 3) where
         ap₂ (λ (rs : List Rule) (l : List ℕ). judge refusedAnswer rs (acceptedMessage true 6 l)) (same-rules room major) same-message
 
     same-session : (room major : ℕ) → sessionAfter g room major 128 pa ≡ sessionAfter g room major 128 pb
-    unfolding sessionAfter
+    unfolding sessionAfter uartPassRules
     same-session room major = rw (before room, same-late, same-nonce)
 
     same-opened : (room major : ℕ) → opened g room major 128 pa ≡ opened g room major 128 pb
@@ -180,7 +180,7 @@ module _ (g : Context) (pn m : List ℕ) (three-bytes : length pn ≡ 3) where
             key = ok .key;
             session = ok .session;
             valid = ok .valid;
-            fresh = rw (nonce-padded padding fills) (ok .fresh);
+            differs = rw (nonce-padded padding fills) (ok .differs);
             validation = rw (text-padded padding fills) refl;
             size = rw (text-padded padding fills, size-with m padding fills) (ok .message .typed);
             least = rw (text-padded padding fills, size-with m padding fills) (length-with m padding fills);

@@ -10,7 +10,7 @@ use Rattle.wire.specs.Content.{accepted, content}
 use Rattle.access.specs.declared.Mode.the-variants.{Normal}
 use Rattle.message.specs.declared.Form.the-variants.{Encrypted}
 use Rattle.message.proofs.Accepts.{message-accepts}
-use Rattle.session.specs.Memory.{emptyMemory, inLimits, remembered}
+use Rattle.session.specs.Memory.{emptyMemory, limited, remembered}
 use Rattle.session.specs.Session.{sessionThere, validAt}
 use Rattle.session.specs.Keys.{noKey}
 use Rattle.envelope.specs.Blocks.{blocksIn}
@@ -57,9 +57,9 @@ fills-15 : Fills (11 ∷ 0 ∷ replicate 9 7) (replicate 15 0xFF)
 fills-15 = refl
 
 permitted : PermittedMessage g pn setState
-unfolding sessionThere validAt inLimits remembered
+unfolding sessionThere validAt limited remembered
 permitted =
-    record { key = refl; session = refl; valid = refl; fresh = refl; most = omega arith; message = message-accepts Encrypted true Normal setState refl }
+    record { key = refl; session = refl; valid = refl; differs = refl; most = omega arith; message = message-accepts Encrypted true Normal setState refl }
 
 abbrev work : List ℕ
 work = replicate 33 0xEE

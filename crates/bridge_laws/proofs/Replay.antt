@@ -7,28 +7,24 @@ use native.Mathlib.Omega.{arith}
 use lib.ListN.{getD}
 use lib.Dec.{eqb, ltb}
 use borrow.Author.Tests.{eq-eqb, eqb-true, not-false}
-use Rattle.wire.specs.Choice.{pick}
 use Rattle.wire.specs.Rules.{Rule, _when_, firstBroken, among}
 use Rattle.wire.proofs.Choice.{and-holds}
-use Rattle.wire.proofs.Rules.{none-append, first-right, judge-pass}
+use Rattle.wire.proofs.Rules.{none-append, judge-pass}
 use Rattle.wire.proofs.Held.{held}
 use Rattle.message.specs.Reading.{messageRules}
 use Rattle.message.specs.declared.Form.the-variants.{Encrypted}
-use Rattle.access.specs.declared.Mode.{Mode}
-use Rattle.session.specs.Keys.{keyForNumber}
 use Rattle.session.specs.Memory.{remembered}
 use Rattle.session.specs.Session.{sessionThere, validAt, sessionRemembering, connectionThere, connectionRemembering}
 use Rattle.session.specs.declared.Connection.{Connection}
-use Rattle.session.specs.declared.Keys.{Keys}
 use Rattle.session.specs.declared.Session.{Session}
 use Rattle.session.proofs.Remembered.{among-first}
 use Rattle.session.proofs.Kept.{session-there, session-remembers, connection-there, connection-remembers}
-use Rattle.envelope.specs.Blocks.{blocksIn, wrongLength, packetNonce}
+use Rattle.envelope.specs.Blocks.{blocksIn, wrongLength, nonceNumber, usedAgain}
 use Rattle.envelope.specs.Sealed.{lateRules, messageIn}
-use Rattle.envelope.specs.Characteristic.{characteristicRules}
+use Rattle.envelope.specs.Characteristic.{characteristicRules, packetIn}
 use Rattle.bridge.specs.Content.{refusalNumber, commandRefusalNumber}
-use Rattle.bridge.specs.Opener.{adminKey, headRules, plainRules, blockRules, sessionRules, uartEntryRules, uartText, uartTextRules, uartOpenRules, sessionAfter, opened}
-use Rattle.bridge.specs.Characteristic.{connectionRules, packetEntryRules, packetText, packetTextRules, packetOpenRules, acceptedCommand, characteristicAnswerOf, connectionAfter, characteristicOpened}
+use Rattle.bridge.specs.Opener.{adminKey, headRules, blockRules, sessionRules, uartEntryRules, uartText, uartTextRules, uartOpenRules, sessionAfter, opened, uartPassRules}
+use Rattle.bridge.specs.Characteristic.{connectionRules, packetEntryRules, packetText, packetTextRules, packetOpenRules, acceptedCommand, characteristicAnswerOf, connectionAfter, characteristicOpened, packetPassRules, levelKey, accessFor}
 use Rattle.bridge.specs.Opening.{refusedAnswer, textAnswer, textSession, sealedAnswer, sealedSession, openedAs, refusedCommand, openedCommandAs}
 use Rattle.bridge.proofs.Judging.{first-stop, judge-stop}
 use Rattle.bridge.proofs.Opening.{sealed-opened}
@@ -37,9 +33,13 @@ use Rattle.bridge.specs.declared.Link.{Link}
 use Rattle.bridge.specs.declared.Opened.{Opened}
 use Rattle.bridge.specs.declared.OpenedCommand.{OpenedCommand}
 use Rattle.bridge_laws.specs.Accepts.{isAccepted, isCommand}
-use Rattle.bridge_laws.specs.Replay.{FrameCall, contextFor, openedBy, passes, sessionStep, FrameRefused, linkWith, openedPacket, passesPacket, connectionStep, passesCall, PacketRefused, NeverAgain}
-use Rattle.bridge_laws.proofs.Accepts.{blocks-clear, rules-clear, frame-accepted, packet-clear, packet-accepted}
-use Rattle.bridge_laws.proofs.Stays.{still, SessionHolds, ConnectionHolds, it-remembered, rules, after, frame-step, phone-step}
+use Rattle.bridge_laws.specs.Replay.{FrameCall, contextFor, openedFrame, frameStep, framePasses, FrameRefused, PacketCall, linkFor, openedPacket, packetPasses, opens, connectionStep, connectionPasses, PacketRefused, ReplayRefused}
+use Rattle.bridge_laws.proofs.Accepts.{blocks-clear}
+use Rattle.bridge_laws.proofs.Stays.{still, SessionHolds, ConnectionHolds, it-remembered, rules, sessionWith, frame-step, connection-step}
+use Rattle.wire.proofs.Given.{passed-first}
+use Rattle.control.specs.Control.{commandRules}
+use Rattle.access.specs.Level.{levelOf}
+use Rattle.bridge_laws.proofs.Never.{frame-number, packet-number}
 
 -- ---- what comes of a packet nonce that is remembered
 -- 7, 25, 10, 9 and 28, by what applies before 28; no 9 on the characteristic
@@ -66,7 +66,7 @@ one-of-four false true c = refl
 one-of-four false false true = refl
 one-of-four false false false = refl
 
-module _ (s : Session) (c : FrameCall) (there : sessionThere s ≡ true) (again : among (packetNonce (c .payload)) (remembered (s .memory)) ≡ true) where
+module _ (s : Session) (c : FrameCall) (there : sessionThere s ≡ true) (again : usedAgain (s .memory) (c .payload) ≡ true) where
   abbrev here : Context
   here = contextFor s c
 
@@ -96,11 +96,11 @@ module _ (s : Session) (c : FrameCall) (there : sessionThere s ≡ true) (again 
       let some = some-given (wrongLength sent) noRoom noKey noTime in
       sym (sealed-opened here (c .room) sent)
       ∙ ap₂ openedAs (judge-stop refusedAnswer entry (textAnswer here (uartText here sent)) number entry-given some)
-      (judge-stop (λ i. s) entry (textSession here (packetNonce sent) (uartText here sent)) number entry-given some)
+      (judge-stop (λ i. s) entry (textSession here (nonceNumber sent) (uartText here sent)) number entry-given some)
 
   frame-refused : c .major ≡ 1 → c .wrapper ≡ 128 → FrameRefused s c
   frame-refused major wrapper =
-      let e : openedBy s c ≡ openedAs (refusedAnswer number) s = ap₂ (λ (i j : ℕ). opened here (c .room) i j sent) major wrapper ∙ frame-again in
+      let e : openedFrame s c ≡ openedAs (refusedAnswer number) s = ap₂ (λ (i j : ℕ). opened here (c .room) i j sent) major wrapper ∙ frame-again in
       record {
         never = ap (λ (r : Opened). isAccepted (r .answer)) e;
         number = ap (λ (r : Opened). among (refusalNumber (r .answer)) (7 ∷ 25 ∷ 10 ∷ 9 ∷ 28 ∷ [])) e ∙ one-of-five (wrongLength sent) noRoom noKey noTime;
@@ -110,40 +110,41 @@ module _ (s : Session) (c : FrameCall) (there : sessionThere s ≡ true) (again 
         session = ap (λ (r : Opened). r .session) e;
       }
 
-packet-refused : (c : Connection) (keys : Keys) (mode : Mode) (room : ℕ) (p : List ℕ) → connectionThere c ≡ true → among (packetNonce p) (remembered (c .memory)) ≡ true
-    → PacketRefused c keys mode room p
-unfolding characteristicOpened characteristicAnswerOf packetOpenRules connectionAfter packetEntryRules connectionRules
-packet-refused c keys mode room p there again =
-    let k : Link = linkWith c keys mode in
+packet-refused : (c : Connection) (q : PacketCall) → connectionThere c ≡ true → usedAgain (c .memory) (q .packet) ≡ true → PacketRefused c q
+unfolding characteristicOpened characteristicAnswerOf packetOpenRules connectionAfter packetPassRules packetEntryRules connectionRules
+packet-refused c q there again =
+    let k : Link = linkFor c q in
+    let p : List ℕ = q .packet in
     let a : Bool = wrongLength p in
-    let b : Bool = ltb room (16 * blocksIn p) in
-    let d : Bool = not (keyForNumber keys mode (getD p 3 0) .held) in
-    let entry : List Rule = packetEntryRules k room p in
+    let b : Bool = ltb (q .room) (16 * blocksIn p) in
+    let d : Bool = not (levelKey k p .held) in
+    let entry : List Rule = packetEntryRules k (q .room) p in
     let late : List Rule = characteristicRules (c .validation) (packetText k p) in
     let text : List Rule = packetTextRules k (getD p 3 0) (packetText k p) in
     let n : given a b d false ≡ firstBroken entry = sym (rw (there, again)) in
     let some = some-given a b d false in
-    let e : openedPacket c keys mode room p ≡ openedCommandAs (refusedCommand (given a b d false)) c =
+    let e : openedPacket c q ≡ openedCommandAs (refusedCommand (given a b d false)) c =
     ap₂ openedCommandAs (judge-stop refusedCommand (entry ++ text) (acceptedCommand (packetText k p)) (given a b d false) (first-stop entry text n some) some)
-    (judge-stop (λ i. c) (entry ++ late) (connectionRemembering c (packetNonce p)) (given a b d false) (first-stop entry late n some) some) in
+    (judge-stop (λ i. c) (entry ++ late) (connectionRemembering c (nonceNumber p)) (given a b d false) (first-stop entry late n some) some) in
     record {
       never = ap (λ (r : OpenedCommand). isCommand (r .answer)) e;
       number = ap (λ (r : OpenedCommand). among (commandRefusalNumber (r .answer)) (7 ∷ 25 ∷ 10 ∷ 28 ∷ [])) e ∙ one-of-four a b d;
       exactly = λ blocks key.
-          let h = held (blockRules p room) (tt, (tt, tt)) (blocks-clear p room blocks) in
+          let h = held (blockRules p (q .room)) (tt, (tt, tt)) (blocks-clear p (q .room) blocks) in
           ap (λ (r : OpenedCommand). commandRefusalNumber (r .answer)) e ∙ rw (h .0, h .1 .0, key);
       connection = ap (λ (r : OpenedCommand). r .connection) e;
     }
 
 -- ---- the first time: its packet nonce stands in front
-module _ (s : Session) (c : FrameCall) (e : passes s c ≡ true) where
-  none-broken : (eqb (c .wrapper) 128 ≡ true) × (firstBroken (rules (packetNonce (c .payload)) s c) ≡ 0)
-  none-broken =
-      let h = and-holds (eqb (c .wrapper) 128) (eqb (firstBroken (rules (packetNonce (c .payload)) s c)) 0) e in
-      (h .0, eqb-true _ 0 (h .1))
+module _ (s : Session) (c : FrameCall) (e : framePasses s c ≡ true) where
+  abbrev n : ℕ
+  n = nonceNumber (c .payload)
+
+  none-broken : (eqb (c .wrapper) 128 ≡ true) × (firstBroken (rules n s c) ≡ 0)
+  none-broken = let h = and-holds (eqb (c .wrapper) 128) (eqb (firstBroken (rules n s c)) 0) e in (h .0, eqb-true _ 0 (h .1))
 
   session-was : sessionThere s ≡ true
-  unfolding uartEntryRules sessionRules
+  unfolding uartPassRules uartEntryRules sessionRules
   session-was =
       let g : Context = contextFor s c in
       let late : List Rule = lateRules (uartText g (c .payload)) in
@@ -151,76 +152,83 @@ module _ (s : Session) (c : FrameCall) (e : passes s c ≡ true) where
       let x = none-append entry late (none-append (headRules (c .major) (c .wrapper)) (entry ++ late) (none-broken .1) .1) .0 in
       not-false _ (held entry (tt, (tt, (tt, (tt, (tt, (tt, tt)))))) x .1 .1 .1 .0)
 
-  abbrev n : ℕ
-  n = packetNonce (c .payload)
-
-  session-is : sessionStep s c ≡ sessionRemembering s n
+  session-is : frameStep s c ≡ sessionRemembering s n
   unfolding opened sessionAfter
-  session-is = ap (λ (w : Bool). after n s c w) (none-broken .0) ∙ judge-pass (λ i. s) (rules n s c) (sessionRemembering s n) (none-broken .1)
+  session-is = ap (λ (w : Bool). sessionWith n s c w) (none-broken .0) ∙ judge-pass (λ i. s) (rules n s c) (sessionRemembering s n) (none-broken .1)
 
-  first-frame : SessionHolds n (sessionStep s c) 0
+  first-frame : SessionHolds n (frameStep s c) 0
   first-frame =
       subst (λ (t : Session). SessionHolds n t 0) (sym session-is) (it-remembered n (s .memory) (session-there s n session-was) (session-remembers s n session-was))
 
-module _ (c : Connection) (keys : Keys) (mode : Mode) (room : ℕ) (p : List ℕ) (e : passesPacket c keys mode room p ≡ true) where
+module _ (c : Connection) (q : PacketCall) (e : packetPasses c q ≡ true) where
   abbrev k : Link
-  k = linkWith c keys mode
+  k = linkFor c q
 
   connection-was : connectionThere c ≡ true
-  unfolding packetEntryRules connectionRules
+  unfolding packetPassRules packetEntryRules connectionRules
   connection-was =
-      let entry : List Rule = packetEntryRules k room p in
-      let x = none-append entry (characteristicRules (c .validation) (packetText k p)) (eqb-true _ 0 e) .0 in
+      let entry : List Rule = packetEntryRules k (q .room) (q .packet) in
+      let x = none-append entry (characteristicRules (c .validation) (packetText k (q .packet))) (eqb-true _ 0 e) .0 in
       not-false _ (held entry (tt, (tt, (tt, (tt, (tt, tt))))) x .1 .1 .1 .0)
 
-  first-packet : ConnectionHolds (packetNonce p) (openedPacket c keys mode room p .connection) 0
+  first-packet : ConnectionHolds (nonceNumber (q .packet)) (openedPacket c q .connection) 0
   unfolding characteristicOpened connectionAfter
   first-packet =
-      let x : ℕ = packetNonce p in
-      let late : List Rule = characteristicRules (c .validation) (packetText k p) in
-      subst (λ (d : Connection). ConnectionHolds x d 0) (sym (judge-pass (λ i. c) (packetEntryRules k room p ++ late) (connectionRemembering c x) (eqb-true _ 0 e)))
+      let x : ℕ = nonceNumber (q .packet) in
+      subst (λ (d : Connection). ConnectionHolds x d 0) (sym (judge-pass (λ i. c) (packetPassRules k (q .room) (q .packet)) (connectionRemembering c x) (eqb-true _ 0 e)))
       (it-remembered x (c .memory) (connection-there c x connection-was) (connection-remembers c x connection-was))
 
--- ---- an accepted message has passed
-accepted-passes : (s : Session) (c : FrameCall) → c .wrapper ≡ 128 → isAccepted (openedBy s c .answer) ≡ true → passes s c ≡ true
-unfolding uartOpenRules uartTextRules
-accepted-passes s c w e =
-    let g : Context = contextFor s c in
-    let t : List ℕ = uartText g (c .payload) in
-    let head : List Rule = headRules (c .major) (c .wrapper) in
-    let entry : List Rule = uartEntryRules g (c .room) (c .payload) in
-    let rest : List Rule = pick (eqb (c .wrapper) 128) (entry ++ uartTextRules g t) (plainRules g (c .payload)) in
-    let x = none-append head rest (rules-clear g (c .room) (c .major) (c .wrapper) (c .payload) (frame-accepted g (c .room) (c .major) (c .wrapper) (c .payload) .only e)) in
-    let y = none-append entry (uartTextRules g t) (rw (eq-eqb (c .wrapper) 128 w) at (x .1)) in
-    let z = none-append (lateRules t) (messageRules Encrypted (c .required) (c .mode) (messageIn t)) (y .1) in
-    ap (λ (b : Bool). b && eqb (firstBroken (head ++ (entry ++ lateRules t))) 0) (eq-eqb (c .wrapper) 128 w)
-    ∙ eq-eqb _ 0 (first-right head (entry ++ lateRules t) (x .0) ∙ first-right entry (lateRules t) (y .0) ∙ z .0)
+-- ---- past 13
+-- the rules of an encrypted message: those that it passes, and the message's own
+frame-rules : (g : Context) (room major wrapper : ℕ) (p : List ℕ) → wrapper ≡ 128
+    → uartOpenRules g room major wrapper p ≡ uartPassRules g room major wrapper p ++ messageRules Encrypted (g .required) (g .mode) (messageIn (uartText g p))
+unfolding uartOpenRules uartPassRules uartEntryRules sessionRules uartTextRules lateRules
+frame-rules g room major wrapper p w = rw (eq-eqb wrapper 128 w) refl
 
-accepted-packet : (c : Connection) (keys : Keys) (mode : Mode) (room : ℕ) (p : List ℕ) → isCommand (openedPacket c keys mode room p .answer) ≡ true → passesPacket c keys mode room p ≡ true
-unfolding packetOpenRules packetTextRules
-accepted-packet c keys mode room p e =
-    let k : Link = linkWith c keys mode in
-    let entry : List Rule = packetEntryRules k room p in
-    let late : List Rule = characteristicRules (c .validation) (packetText k p) in
-    let x = none-append entry (packetTextRules k (getD p 3 0) (packetText k p)) (packet-clear k room p (packet-accepted k room p .only e)) in
-    eq-eqb _ 0 (first-right entry late (x .0) ∙ none-append late _ (x .1) .0)
+packet-rules : (k : Link) (room : ℕ) (p : List ℕ)
+    → packetOpenRules k room p ≡ packetPassRules k room p ++ commandRules (packetIn (packetText k p)) (k .mode) (accessFor (levelOf (getD p 3 0)))
+unfolding packetOpenRules packetPassRules packetEntryRules connectionRules packetTextRules characteristicRules
+packet-rules k room p = refl
+
+past-frame : (s : Session) (c : FrameCall) → c .wrapper ≡ 128
+    → among (refusalNumber (openedFrame s c .answer)) (0 ∷ 14 ∷ 15 ∷ 16 ∷ 17 ∷ 18 ∷ 19 ∷ 20 ∷ 21 ∷ 22 ∷ 23 ∷ 24 ∷ []) ≡ true → framePasses s c ≡ true
+unfolding uartPassRules uartEntryRules sessionRules lateRules
+past-frame s c w h =
+    let g : Context = contextFor s c in
+    let ms : List ℕ = 0 ∷ 14 ∷ 15 ∷ 16 ∷ 17 ∷ 18 ∷ 19 ∷ 20 ∷ 21 ∷ 22 ∷ 23 ∷ 24 ∷ [] in
+    let xs : List Rule = uartPassRules g (c .room) (c .major) (c .wrapper) (c .payload) in
+    let ys : List Rule = messageRules Encrypted (c .required) (c .mode) (messageIn (uartText g (c .payload))) in
+    let e : refusalNumber (openedFrame s c .answer) ≡ firstBroken (xs ++ ys) =
+    frame-number g (c .room) (c .payload) (c .major) (c .wrapper) ∙ ap firstBroken (frame-rules g (c .room) (c .major) (c .wrapper) (c .payload) w) in
+    ap₂ _&&_ (eq-eqb (c .wrapper) 128 w) (eq-eqb (firstBroken xs) 0 (passed-first xs ys ms refl (ap (λ (n : ℕ). among n ms) (sym e) ∙ h)))
+
+past-packet : (c : Connection) (q : PacketCall) → among (commandRefusalNumber (openedPacket c q .answer)) (0 ∷ 19 ∷ 20 ∷ 21 ∷ 22 ∷ 23 ∷ 24 ∷ []) ≡ true
+    → packetPasses c q ≡ true
+unfolding packetPassRules packetEntryRules connectionRules characteristicRules
+past-packet c q h =
+    let k : Link = linkFor c q in
+    let p : List ℕ = q .packet in
+    let ms : List ℕ = 0 ∷ 19 ∷ 20 ∷ 21 ∷ 22 ∷ 23 ∷ 24 ∷ [] in
+    let xs : List Rule = packetPassRules k (q .room) p in
+    let ys : List Rule = commandRules (packetIn (packetText k p)) (k .mode) (accessFor (levelOf (getD p 3 0))) in
+    let e : commandRefusalNumber (openedPacket c q .answer) ≡ firstBroken (xs ++ ys) = packet-number k (q .room) p ∙ ap firstBroken (packet-rules k (q .room) p) in
+    eq-eqb (firstBroken xs) 0 (passed-first xs ys ms refl (ap (λ (n : ℕ). among n ms) (sym e) ∙ h))
 
 -- ---- the law
-pub never-again : NeverAgain
-never-again =
+pub replay-refused : ReplayRefused
+replay-refused =
     record {
-      accepted = accepted-passes;
-      acceptedPacket = accepted-packet;
+      past = past-frame;
+      pastPacket = past-packet;
       frame = λ s first again between e stays few major wrapper same.
-          let n : ℕ = packetNonce (first .payload) in
-          let t = sessionStep s first in
-          still sessionStep passes (λ (x : Session). x .nonce) (SessionHolds n) (frame-step n) between t 0 (first-frame s first e) stays (omega arith)
-          (λ x i h q. subst (λ (y : Session). FrameRefused y again) q
-          (frame-refused x again (h .there-is) (ap (λ (y : ℕ). among y (remembered (x .memory))) same ∙ among-first n (suc i) (remembered (x .memory)) (h .within)) major wrapper));
-      packet = λ c keys mode room p between keys′ mode′ room′ p′ e stays few same.
-          let n : ℕ = packetNonce p in
-          let d = openedPacket c keys mode room p .connection in
-          still connectionStep passesCall (λ (x : Connection). x .nonce) (ConnectionHolds n) (phone-step n) between d 0 (first-packet c keys mode room p e) stays (omega arith)
-          (λ x i h q. subst (λ (y : Connection). PacketRefused y keys′ mode′ room′ p′) q
-          (packet-refused x keys′ mode′ room′ p′ (h .there-is) (ap (λ (y : ℕ). among y (remembered (x .memory))) same ∙ among-first n (suc i) (remembered (x .memory)) (h .within))));
+          let x : ℕ = nonceNumber (first .payload) in
+          still frameStep framePasses (λ (t : Session). t .nonce) (SessionHolds x) (frame-step x) between (frameStep s first) 0 (first-frame s first e) stays (omega arith)
+          (λ t i h q. subst (λ (y : Session). FrameRefused y again) q
+          (frame-refused t again (h .there-is) (ap (λ (y : ℕ). among y (remembered (t .memory))) same ∙ among-first x (suc i) (remembered (t .memory)) (h .within)) major wrapper));
+      packet = λ c first again between e stays few same.
+          let x : ℕ = nonceNumber (first .packet) in
+          still connectionStep connectionPasses (λ (d : Connection). d .nonce) (ConnectionHolds x) (connection-step x) between (connectionStep c (opens first)) 0 (first-packet c first e)
+          stays (omega arith)
+          (λ d i h q. subst (λ (y : Connection). PacketRefused y again) q
+          (packet-refused d again (h .there-is) (ap (λ (y : ℕ). among y (remembered (d .memory))) same ∙ among-first x (suc i) (remembered (d .memory)) (h .within))));
     }

@@ -73,7 +73,7 @@ module _ (k : Link) (level : Level) (pn packet : List ℕ) (s : SealablePacket k
         s .key,
         s .connection,
         characteristic-number (key .bytes) pn (k .connection .nonce) (levelNumber level) v packet (s .three),
-        s .fresh,
+        s .differs,
       )
 
   reads : firstBroken (packetTextRules k (getD p 3 0) (packetText k p)) ≡ 0

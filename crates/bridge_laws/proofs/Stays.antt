@@ -20,15 +20,12 @@ use Rattle.session.specs.declared.NonceMemory.{NonceMemory}
 use Rattle.session.specs.declared.Session.{Session}
 use Rattle.session.proofs.Remembered.{first-of, one-behind}
 use Rattle.session.proofs.Kept.{session-there, session-remembers, nonce-there, connection-there, connection-remembers, data-there, memory-kept}
-use Rattle.envelope.specs.Blocks.{packetNonce}
-use Rattle.envelope.specs.Sealed.{lateRules}
-use Rattle.envelope.specs.Characteristic.{characteristicRules}
+use Rattle.envelope.specs.Blocks.{nonceNumber}
 use Rattle.session_data.specs.SessionData.{dataKey, textOf, nonceIn, validationIn, dataReadRules, dataRead}
-use Rattle.bridge.specs.Opener.{headRules, plainRules, uartEntryRules, uartText, sessionBy, sessionAfter, opened}
-use Rattle.bridge.specs.Characteristic.{packetEntryRules, packetText, connectionAfter, characteristicOpened}
+use Rattle.bridge.specs.Opener.{headRules, plainRules, uartPassRules, sessionBy, sessionAfter, opened}
+use Rattle.bridge.specs.Characteristic.{packetPassRules, connectionAfter, characteristicOpened}
 use Rattle.bridge.specs.declared.Context.{Context}
-use Rattle.bridge.specs.declared.Link.{Link}
-use Rattle.bridge_laws.specs.Replay.{behind, passedIn, NonceStays, FrameCall, contextFor, passes, sessionStep, PhoneCall, opens, reads, linkWith, connectionStep, passesCall}
+use Rattle.bridge_laws.specs.Replay.{after, passedIn, NonceStays, FrameCall, contextFor, frameStep, framePasses, linkFor, ConnectionCall, opens, reads, connectionStep, connectionPasses}
 
 -- ---- several calls
 module _ {S C : Type 0} (step : S → C → S) (passing : S → C → Bool) (nonce : S → List ℕ) (Holds : S → ℕ → Type 0)
@@ -42,7 +39,7 @@ module _ {S C : Type 0} (step : S → C → S) (passing : S → C → Bool) (non
     turn false j r h = (omega arith, omega arith)
 
     -- what holds of the first j + 1 places holds behind them of as many more as messages passed
-    pub still : (cs : List C) (s : S) (j : ℕ) → Holds s j → NonceStays step nonce s cs → count s cs + j < 8 → {E : Type 0} → ((t : S) (i : ℕ) → Holds t i → t ≡ behind step s cs → E) → E
+    pub still : (cs : List C) (s : S) (j : ℕ) → Holds s j → NonceStays step nonce s cs → count s cs + j < 8 → {E : Type 0} → ((t : S) (i : ℕ) → Holds t i → t ≡ after step s cs → E) → E
     still [] s j h stays k f = f s j h refl
     still (c ∷ cs) s j h stays k f =
         let t = turn (passing s c) j (count (step s c) cs) k in
@@ -107,25 +104,25 @@ module _ (n : ℕ) where
     p = c .payload
 
     abbrev pub rules : List Rule
-    rules = headRules (c .major) (c .wrapper) ++ (uartEntryRules g (c .room) p ++ lateRules (uartText g p))
+    rules = uartPassRules g (c .room) (c .major) (c .wrapper) p
 
     abbrev plain : List Rule
     plain = headRules (c .major) (c .wrapper) ++ plainRules g p
 
-    abbrev pub after : Bool → Session
-    after w = pick w (judge (λ i. s) rules (sessionRemembering s (packetNonce p))) (judge (λ i. s) plain (sessionBy g (messageAt p)))
+    abbrev pub sessionWith : Bool → Session
+    sessionWith w = pick w (judge (λ i. s) rules (sessionRemembering s (nonceNumber p))) (judge (λ i. s) plain (sessionBy g (messageAt p)))
 
-    by-form : (j : ℕ) → SessionHolds s j → (w : Bool) → after w .nonce ≡ s .nonce → pick (w && eqb (firstBroken rules) 0) (suc j) j < 8
-        → SessionHolds (after w) (pick (w && eqb (firstBroken rules) 0) (suc j) j)
+    by-form : (j : ℕ) → SessionHolds s j → (w : Bool) → sessionWith w .nonce ≡ s .nonce → pick (w && eqb (firstBroken rules) 0) (suc j) j < 8
+        → SessionHolds (sessionWith w) (pick (w && eqb (firstBroken rules) 0) (suc j) j)
     by-form j h true q l =
-        let x : ℕ = packetNonce p in
+        let x : ℕ = nonceNumber p in
         by-passing SessionHolds (firstBroken rules) s (sessionRemembering s x) j h
         (λ k. other-remembered j x h (session-there s x (h .there-is)) (session-remembers s x (h .there-is)) k) l
     by-form j h false q l =
         by-verdict (λ t. SessionHolds t j) (λ (t : Session). t .nonce) (firstBroken plain) s (sessionBy g (messageAt p)) h (by-message g j h (messageAt p)) q
 
-    pub frame-step : (j : ℕ) → SessionHolds s j → sessionStep s c .nonce ≡ s .nonce → pick (passes s c) (suc j) j < 8
-        → SessionHolds (sessionStep s c) (pick (passes s c) (suc j) j)
+    pub frame-step : (j : ℕ) → SessionHolds s j → frameStep s c .nonce ≡ s .nonce → pick (framePasses s c) (suc j) j < 8
+        → SessionHolds (frameStep s c) (pick (framePasses s c) (suc j) j)
     unfolding opened sessionAfter
     frame-step j h q l = by-form j h (eqb (c .wrapper) 128) q l
 
@@ -133,15 +130,14 @@ module _ (n : ℕ) where
   abbrev pub ConnectionHolds : Connection → ℕ → Type 0
   ConnectionHolds c j = Holds (connectionThere c) (c .memory) j
 
-  pub phone-step : (c : Connection) (q : PhoneCall) (j : ℕ) → ConnectionHolds c j → connectionStep c q .nonce ≡ c .nonce → pick (passesCall c q) (suc j) j < 8
-      → ConnectionHolds (connectionStep c q) (pick (passesCall c q) (suc j) j)
+  pub connection-step : (c : Connection) (call : ConnectionCall) (j : ℕ) → ConnectionHolds c j → connectionStep c call .nonce ≡ c .nonce
+      → pick (connectionPasses c call) (suc j) j < 8 → ConnectionHolds (connectionStep c call) (pick (connectionPasses c call) (suc j) j)
   unfolding characteristicOpened connectionAfter dataRead
-  phone-step c (opens keys mode room p) j h e l =
-      let k : Link = linkWith c keys mode in
-      let x : ℕ = packetNonce p in
-      by-passing ConnectionHolds (firstBroken (packetEntryRules k room p ++ characteristicRules (c .validation) (packetText k p))) c (connectionRemembering c x) j h
+  connection-step c (opens q) j h e l =
+      let x : ℕ = nonceNumber (q .packet) in
+      by-passing ConnectionHolds (firstBroken (packetPassRules (linkFor c q) (q .room) (q .packet))) c (connectionRemembering c x) j h
       (λ i. other-remembered j x h (connection-there c x (h .there-is)) (connection-remembers c x (h .there-is)) i) l
-  phone-step c (reads keys mode block) j h e l =
+  connection-step c (reads keys mode block) j h e l =
       let text : List ℕ = textOf (dataKey keys mode) block in
       by-verdict (λ d. ConnectionHolds d j) (λ (d : Connection). d .nonce) (firstBroken (dataReadRules (dataKey keys mode) block)) c (withData c (nonceIn text) (validationIn text)) h
       (λ q. nonce-renewed (connectionThere c) (c .nonce) (c .memory) (nonceIn text) j h (data-there c (nonceIn text) (validationIn text)) q) e

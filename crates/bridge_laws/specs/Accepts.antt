@@ -8,16 +8,14 @@ use mathlib.Core.Bool.{Bool, true, false}
 use mathlib.Core.List.{List}
 use lib.ListN.{length, getD, take, drop}
 use Rattle.wire.specs.Numbers.{num}
-use Rattle.wire.specs.Rules.{among}
 use Rattle.aes.specs.Ctr.{blocksFor}
 use Rattle.access.specs.Level.{levelOf}
 use Rattle.control.specs.Accepts.{Accepts}
 use Rattle.message.specs.Accepts.{AcceptsMessage}
 use Rattle.message.specs.declared.Form.the-variants.{Plain, Encrypted}
-use Rattle.session.specs.Memory.{remembered}
 use Rattle.session.specs.Session.{sessionThere, validAt, connectionThere}
 use Rattle.session.specs.Keys.{keyForNumber}
-use Rattle.envelope.specs.Blocks.{blocksIn, packetNonce}
+use Rattle.envelope.specs.Blocks.{blocksIn, usedAgain}
 use Rattle.envelope.specs.Sealed.{messageSize, messageIn}
 use Rattle.envelope.specs.Characteristic.{packetSize, allZero, packetIn}
 use Rattle.bridge.specs.Opener.{adminKey, uartText}
@@ -58,8 +56,8 @@ pub record AcceptsSealed (g : Context) (room : ℕ) (p : List ℕ) : Type 0 wher
   -- a session, which has not run out
   pub session : sessionThere (g .session) ≡ true
   pub valid : validAt (g .session) (g .time) ≡ true
-  -- the packet nonce is none of those remembered
-  pub fresh : among (packetNonce p) (remembered (g .session .memory)) ≡ false
+  -- the packet nonce differs from those remembered
+  pub differs : usedAgain (g .session .memory) p ≡ false
   -- of the blocks deciphered: validation, message size, n the least; of the padding nothing
   pub validation : num 4 0 (uartText g p) ≡ 0xCAFEBABE
   pub size : 2 ≤ messageSize (uartText g p)
@@ -78,8 +76,8 @@ pub record AcceptsPacket (k : Link) (room : ℕ) (p : List ℕ) : Type 0 where
   -- the key of its level held in this mode
   pub key : keyForNumber (k .keys) (k .mode) (getD p 3 0) .held ≡ true
   pub session : connectionThere (k .connection) ≡ true
-  -- the packet nonce is none of those remembered
-  pub fresh : among (packetNonce p) (remembered (k .connection .memory)) ≡ false
+  -- the packet nonce differs from those remembered
+  pub differs : usedAgain (k .connection .memory) p ≡ false
   -- of the blocks deciphered: the connection's validation key, n the least, zero padding
   pub validation : take 4 (packetText k p) ≡ k .connection .validation
   pub least : length (packetText k p) ≡ 16 * blocksFor (4 + packetSize (packetText k p))

@@ -5,7 +5,6 @@ use mathlib.Core.Path.{_≡_}
 use mathlib.Core.Bool.{true, false}
 use mathlib.Core.List.{List}
 use lib.ListN.{length}
-use Rattle.wire.specs.Rules.{among}
 use Rattle.aes.specs.Inverse.{SixteenBytes}
 use Rattle.access.specs.Level.{levelNumber}
 use Rattle.access.specs.declared.Access.the-variants.{Keyed}
@@ -13,9 +12,8 @@ use Rattle.access.specs.declared.Level.{Level}
 use Rattle.control.specs.Control.{commandAt, readControl}
 use Rattle.control.specs.declared.ControlRead.the-variants.{Accepted}
 use Rattle.session.specs.Keys.{keyFor}
-use Rattle.session.specs.Memory.{remembered}
 use Rattle.session.specs.Session.{withData}
-use Rattle.envelope.specs.Blocks.{packetNonce}
+use Rattle.envelope.specs.Blocks.{usedAgain}
 use Rattle.envelope.specs.Characteristic.{characteristicImage}
 use Rattle.session_data.specs.SessionData.{dataKey, dataImage, dataRead}
 use Rattle.session_data.specs.RoundTrip.{Sized}
@@ -37,7 +35,7 @@ pub record Connectable (k : Link) (level : Level) (nonce validation pn packet : 
   pub data-bytes : SixteenBytes (dataKey (k .keys) (k .mode) .bytes)
   pub sized : Sized nonce validation
   pub key : keyFor (k .keys) (k .mode) level .held ≡ true
-  pub fresh : among (packetNonce pn) (remembered (withData (k .connection) nonce validation .memory)) ≡ false
+  pub differs : usedAgain (withData (k .connection) nonce validation .memory) pn ≡ false
   pub three : length pn ≡ 3
   pub most : length packet ≤ 492
   pub read : readControl packet (k .mode) (Keyed level) ≡ Accepted (commandAt packet)

@@ -5,14 +5,13 @@ use mathlib.Core.Path.{_≡_}
 use mathlib.Core.Bool.{true, false}
 use mathlib.Core.List.{List, _++_}
 use lib.ListN.{length, drop}
-use Rattle.wire.specs.Rules.{judge, among}
+use Rattle.wire.specs.Rules.{judge}
 use Rattle.wire.specs.Content.{Judged, Content, accepted}
 use Rattle.message.specs.Accepts.{AcceptsMessage}
 use Rattle.message.specs.Reading.{tableContent}
 use Rattle.message.specs.declared.Form.the-variants.{Encrypted}
-use Rattle.session.specs.Memory.{remembered}
 use Rattle.session.specs.Session.{sessionThere, validAt}
-use Rattle.envelope.specs.Blocks.{paddingFor, blocksIn, packetNonce}
+use Rattle.envelope.specs.Blocks.{paddingFor, blocksIn, usedAgain}
 use Rattle.envelope.specs.Sealed.{unpadded, sealedImage, sealedWith}
 use Rattle.bridge.specs.Content.{Given, answerContent}
 use Rattle.bridge.specs.Opener.{adminKey, uartOpenRules, opened, workAfter}
@@ -50,7 +49,7 @@ pub record PermittedMessage (g : Context) (pn m : List ℕ) : Type 0 where
   pub key : adminKey g .held ≡ true
   pub session : sessionThere (g .session) ≡ true
   pub valid : validAt (g .session) (g .time) ≡ true
-  pub fresh : among (packetNonce pn) (remembered (g .session .memory)) ≡ false
+  pub differs : usedAgain (g .session .memory) pn ≡ false
   pub most : length m ≤ 490
   pub message : AcceptsMessage Encrypted (g .required) (g .mode) m
 

@@ -1,28 +1,25 @@
 -- Document 02 §6: a sealed message that was opened past 13, opened again, is never accepted. It gets 28, or a refusal that stands before it; exactly 28
 -- where length, room, key and time permit. Whatever its blocks hold, and whatever came between, as long as fewer than eight other encrypted messages
--- passed and the session nonce stayed. The statement, `NeverAgain`; proofs/Replay.antt proves it.
+-- passed and the session nonce stayed. The statement, `ReplayRefused`; proofs/Replay.antt proves it.
 use Prim.Native.Nat.{ℕ, suc, _<_}
 use mathlib.Core.Path.{_≡_}
 use mathlib.Core.Bool.{Bool, true, false, _&&_}
-use mathlib.Core.List.{List, [], _∷_, _++_}
+use mathlib.Core.List.{List, [], _∷_}
 use lib.ListN.{getD}
 use lib.Dec.{eqb}
 use Rattle.wire.specs.Choice.{pick}
 use Rattle.wire.specs.Rules.{firstBroken, among}
 use Rattle.units.specs.declared.Seconds.{Seconds}
 use Rattle.access.specs.declared.Mode.{Mode}
-use Rattle.session.specs.Keys.{keyForNumber}
 use Rattle.session.specs.Session.{validAt}
 use Rattle.session.specs.declared.Connection.{Connection}
 use Rattle.session.specs.declared.Keys.{Keys}
 use Rattle.session.specs.declared.Session.{Session}
-use Rattle.envelope.specs.Blocks.{packetNonce}
-use Rattle.envelope.specs.Sealed.{lateRules}
-use Rattle.envelope.specs.Characteristic.{characteristicRules}
+use Rattle.envelope.specs.Blocks.{nonceNumber}
 use Rattle.session_data.specs.SessionData.{dataKey, dataRead}
 use Rattle.bridge.specs.Content.{refusalNumber, commandRefusalNumber}
-use Rattle.bridge.specs.Opener.{adminKey, headRules, uartEntryRules, uartText, opened}
-use Rattle.bridge.specs.Characteristic.{packetEntryRules, packetText, characteristicOpened}
+use Rattle.bridge.specs.Opener.{adminKey, uartPassRules, opened}
+use Rattle.bridge.specs.Characteristic.{levelKey, packetPassRules, characteristicOpened}
 use Rattle.bridge.specs.declared.Context.{Context}
 use Rattle.bridge.specs.declared.Link.{Link}
 use Rattle.bridge.specs.declared.Opened.{Opened}
@@ -30,10 +27,10 @@ use Rattle.bridge.specs.declared.OpenedCommand.{OpenedCommand}
 use Rattle.bridge_laws.specs.Accepts.{isAccepted, isCommand, AcceptsBlocks}
 
 -- ---- several calls, each with the session that came back from the last
--- the session behind them
-abbrev pub behind : {S C : Type 0} → (S → C → S) → S → List C → S
-behind step s [] = s
-behind step s (c ∷ cs) = behind step (step s c) cs
+-- the session after them
+abbrev pub after : {S C : Type 0} → (S → C → S) → S → List C → S
+after step s [] = s
+after step s (c ∷ cs) = after step (step s c) cs
 
 -- how many of them are encrypted messages that passed
 abbrev pub passedIn : {S C : Type 0} → (S → C → S) → (S → C → Bool) → S → List C → ℕ
@@ -60,79 +57,82 @@ pub record FrameCall : Type 0 where
 abbrev pub contextFor : Session → FrameCall → Context
 contextFor s c = record { session = s; time = c .time; keys = c .keys; mode = c .mode; required = c .required }
 
-abbrev pub openedBy : Session → FrameCall → Opened
-openedBy s c = opened (contextFor s c) (c .room) (c .major) (c .wrapper) (c .payload)
+abbrev pub openedFrame : Session → FrameCall → Opened
+openedFrame s c = opened (contextFor s c) (c .room) (c .major) (c .wrapper) (c .payload)
+
+abbrev pub frameStep : Session → FrameCall → Session
+frameStep s c = openedFrame s c .session
 
 -- an encrypted message that passes all of 10 to 13
-abbrev pub passes : Session → FrameCall → Bool
-passes s c =
-    let g : Context = contextFor s c in
-    eqb (c .wrapper) 128
-    && eqb (firstBroken (headRules (c .major) (c .wrapper) ++ (uartEntryRules g (c .room) (c .payload) ++ lateRules (uartText g (c .payload))))) 0
+abbrev pub framePasses : Session → FrameCall → Bool
+framePasses s c = eqb (c .wrapper) 128 && eqb (firstBroken (uartPassRules (contextFor s c) (c .room) (c .major) (c .wrapper) (c .payload))) 0
 
-abbrev pub sessionStep : Session → FrameCall → Session
-sessionStep s c = openedBy s c .session
-
--- what comes of a frame, with the session s
-pub record FrameRefused (s : Session) (again : FrameCall) : Type 0 where
-  pub never : isAccepted (openedBy s again .answer) ≡ false
-  pub number : among (refusalNumber (openedBy s again .answer)) (7 ∷ 25 ∷ 10 ∷ 9 ∷ 28 ∷ []) ≡ true
+-- such a frame is refused, and the session s stays
+pub record FrameRefused (s : Session) (c : FrameCall) : Type 0 where
+  pub never : isAccepted (openedFrame s c .answer) ≡ false
+  pub number : among (refusalNumber (openedFrame s c .answer)) (7 ∷ 25 ∷ 10 ∷ 9 ∷ 28 ∷ []) ≡ true
   pub exactly :
-      AcceptsBlocks (again .payload) (again .room) → getD (again .payload) 3 0 ≡ 0 → adminKey (contextFor s again) .held ≡ true
-      → validAt s (again .time) ≡ true
-      → refusalNumber (openedBy s again .answer) ≡ 28
-  pub session : openedBy s again .session ≡ s
+      AcceptsBlocks (c .payload) (c .room) → getD (c .payload) 3 0 ≡ 0 → adminKey (contextFor s c) .held ≡ true → validAt s (c .time) ≡ true
+      → refusalNumber (openedFrame s c .answer) ≡ 28
+  pub session : openedFrame s c .session ≡ s
 
 -- ---- characteristic packets
--- a packet that is opened in a room, or a block of session data that is read
-pub data PhoneCall : Type 0 where
-  opens : Keys → Mode → ℕ → List ℕ → PhoneCall
-  reads : Keys → Mode → List ℕ → PhoneCall
+pub record PacketCall : Type 0 where
+  pub keys : Keys
+  pub mode : Mode
+  pub room : ℕ
+  pub packet : List ℕ
 
-abbrev pub linkWith : Connection → Keys → Mode → Link
-linkWith c keys mode = record { connection = c; keys = keys; mode = mode }
+abbrev pub linkFor : Connection → PacketCall → Link
+linkFor c q = record { connection = c; keys = q .keys; mode = q .mode }
 
-abbrev pub openedPacket : Connection → Keys → Mode → ℕ → List ℕ → OpenedCommand
-openedPacket c keys mode room p = characteristicOpened (linkWith c keys mode) room p
+abbrev pub openedPacket : Connection → PacketCall → OpenedCommand
+openedPacket c q = characteristicOpened (linkFor c q) (q .room) (q .packet)
 
-abbrev pub passesPacket : Connection → Keys → Mode → ℕ → List ℕ → Bool
-passesPacket c keys mode room p =
-    let k : Link = linkWith c keys mode in
-    eqb (firstBroken (packetEntryRules k room p ++ characteristicRules (c .validation) (packetText k p))) 0
+abbrev pub packetPasses : Connection → PacketCall → Bool
+packetPasses c q = eqb (firstBroken (packetPassRules (linkFor c q) (q .room) (q .packet))) 0
 
-abbrev pub connectionStep : Connection → PhoneCall → Connection
-connectionStep c (opens keys mode room p) = openedPacket c keys mode room p .connection
+-- what may come between: a packet is opened, or a block of session data is read
+pub data ConnectionCall : Type 0 where
+  opens : PacketCall → ConnectionCall
+  reads : Keys → Mode → List ℕ → ConnectionCall
+
+abbrev pub connectionStep : Connection → ConnectionCall → Connection
+connectionStep c (opens q) = openedPacket c q .connection
 connectionStep c (reads keys mode block) = dataRead (dataKey keys mode) c block .connection
 
-abbrev pub passesCall : Connection → PhoneCall → Bool
-passesCall c (opens keys mode room p) = passesPacket c keys mode room p
-passesCall c (reads keys mode block) = false
+abbrev pub connectionPasses : Connection → ConnectionCall → Bool
+connectionPasses c (opens q) = packetPasses c q
+connectionPasses c (reads keys mode block) = false
 
--- what comes of a packet, with the connection session c
-pub record PacketRefused (c : Connection) (keys : Keys) (mode : Mode) (room : ℕ) (p : List ℕ) : Type 0 where
-  pub never : isCommand (openedPacket c keys mode room p .answer) ≡ false
-  pub number : among (commandRefusalNumber (openedPacket c keys mode room p .answer)) (7 ∷ 25 ∷ 10 ∷ 28 ∷ []) ≡ true
-  pub exactly : AcceptsBlocks p room → keyForNumber keys mode (getD p 3 0) .held ≡ true → commandRefusalNumber (openedPacket c keys mode room p .answer) ≡ 28
-  pub connection : openedPacket c keys mode room p .connection ≡ c
+-- such a packet is refused, and the connection session c stays
+pub record PacketRefused (c : Connection) (q : PacketCall) : Type 0 where
+  pub never : isCommand (openedPacket c q .answer) ≡ false
+  pub number : among (commandRefusalNumber (openedPacket c q .answer)) (7 ∷ 25 ∷ 10 ∷ 28 ∷ []) ≡ true
+  pub exactly :
+      AcceptsBlocks (q .packet) (q .room) → levelKey (linkFor c q) (q .packet) .held ≡ true → commandRefusalNumber (openedPacket c q .answer) ≡ 28
+  pub connection : openedPacket c q .connection ≡ c
 
 -- ---- the statement
-pub record NeverAgain : Type 0 where
-  -- an encrypted message that was accepted has passed
-  pub accepted : (s : Session) (c : FrameCall) → c .wrapper ≡ 128 → isAccepted (openedBy s c .answer) ≡ true → passes s c ≡ true
-  pub acceptedPacket :
-      (c : Connection) (keys : Keys) (mode : Mode) (room : ℕ) (p : List ℕ) → isCommand (openedPacket c keys mode room p .answer) ≡ true
-      → passesPacket c keys mode room p ≡ true
+pub record ReplayRefused : Type 0 where
+  -- what was opened past 13 has passed: accepted, or refused by 14 to 24, of a packet by 19 to 24
+  pub past :
+      (s : Session) (c : FrameCall) → c .wrapper ≡ 128
+      → among (refusalNumber (openedFrame s c .answer)) (0 ∷ 14 ∷ 15 ∷ 16 ∷ 17 ∷ 18 ∷ 19 ∷ 20 ∷ 21 ∷ 22 ∷ 23 ∷ 24 ∷ []) ≡ true
+      → framePasses s c ≡ true
+  pub pastPacket :
+      (c : Connection) (q : PacketCall) → among (commandRefusalNumber (openedPacket c q .answer)) (0 ∷ 19 ∷ 20 ∷ 21 ∷ 22 ∷ 23 ∷ 24 ∷ []) ≡ true
+      → packetPasses c q ≡ true
   -- a frame, and another with its packet nonce
   pub frame :
-      (s : Session) (first again : FrameCall) (between : List FrameCall) → passes s first ≡ true
-      → NonceStays sessionStep (λ t. t .nonce) (sessionStep s first) between → passedIn sessionStep passes (sessionStep s first) between < 8
-      → again .major ≡ 1 → again .wrapper ≡ 128 → packetNonce (again .payload) ≡ packetNonce (first .payload)
-      → FrameRefused (behind sessionStep (sessionStep s first) between) again
+      (s : Session) (first again : FrameCall) (between : List FrameCall) → framePasses s first ≡ true
+      → NonceStays frameStep (λ t. t .nonce) (frameStep s first) between → passedIn frameStep framePasses (frameStep s first) between < 8
+      → again .major ≡ 1 → again .wrapper ≡ 128 → nonceNumber (again .payload) ≡ nonceNumber (first .payload)
+      → FrameRefused (after frameStep (frameStep s first) between) again
   -- a packet, and another with its packet nonce, from whatever level
   pub packet :
-      (c : Connection) (keys : Keys) (mode : Mode) (room : ℕ) (p : List ℕ) (between : List PhoneCall)
-      (keys′ : Keys) (mode′ : Mode) (room′ : ℕ) (p′ : List ℕ) → passesPacket c keys mode room p ≡ true
-      → NonceStays connectionStep (λ d. d .nonce) (openedPacket c keys mode room p .connection) between
-      → passedIn connectionStep passesCall (openedPacket c keys mode room p .connection) between < 8
-      → packetNonce p′ ≡ packetNonce p
-      → PacketRefused (behind connectionStep (openedPacket c keys mode room p .connection) between) keys′ mode′ room′ p′
+      (c : Connection) (first again : PacketCall) (between : List ConnectionCall) → packetPasses c first ≡ true
+      → NonceStays connectionStep (λ d. d .nonce) (connectionStep c (opens first)) between
+      → passedIn connectionStep connectionPasses (connectionStep c (opens first)) between < 8
+      → nonceNumber (again .packet) ≡ nonceNumber (first .packet)
+      → PacketRefused (after connectionStep (connectionStep c (opens first)) between) again

@@ -5,7 +5,6 @@ use mathlib.Core.Path.{_≡_}
 use mathlib.Core.Bool.{true, false}
 use mathlib.Core.List.{List}
 use lib.ListN.{length, take}
-use Rattle.wire.specs.Rules.{among}
 use Rattle.wire.specs.Content.{accepted}
 use Rattle.wire.specs.declared.Written.{Written}
 use Rattle.wire.specs.declared.Written.the-variants.{Wrote}
@@ -15,9 +14,8 @@ use Rattle.access.specs.declared.Level.{Level}
 use Rattle.control.specs.Control.{commandAt, readControl, controlContent}
 use Rattle.control.specs.declared.ControlRead.the-variants.{Accepted}
 use Rattle.session.specs.Keys.{keyFor}
-use Rattle.session.specs.Memory.{remembered}
 use Rattle.session.specs.Session.{connectionThere}
-use Rattle.envelope.specs.Blocks.{outside, Seals, blocksIn, packetNonce}
+use Rattle.envelope.specs.Blocks.{outside, Seals, blocksIn, usedAgain}
 use Rattle.envelope.specs.Characteristic.{characteristicImage}
 use Rattle.bridge.specs.Place.{placeFrom}
 use Rattle.bridge.specs.Content.{commandAnswerContent}
@@ -30,7 +28,7 @@ use Rattle.bridge.specs.declared.CommandAnswer.the-variants.{Accepted as Comman
 pub record SealablePacket (k : Link) (level : Level) (pn packet : List ℕ) : Type 0 where
   pub key : keyFor (k .keys) (k .mode) level .held ≡ true
   pub connection : connectionThere (k .connection) ≡ true
-  pub fresh : among (packetNonce pn) (remembered (k .connection .memory)) ≡ false
+  pub differs : usedAgain (k .connection .memory) pn ≡ false
   pub three : length pn ≡ 3
   pub four : length (k .connection .validation) ≡ 4
   pub most : length packet ≤ 492

@@ -1,4 +1,4 @@
--- Laws on bytes for the functions that open: zeros, a front compared, a buffer cleared. Assumes nothing.
+-- Laws on bytes for the functions that open: zeros, the first three bytes, a buffer cleared. Assumes nothing.
 use mathlib.Core.Path.{_≡_, ap, _∙_}
 use mathlib.Core.Bool.{true, _&&_}
 use mathlib.Core.List.{List, [], _∷_, _++_}
@@ -20,7 +20,7 @@ pub zero-end : (s : List ℕ) (i : ℕ) → length s ≤ i → allZero (drop i s
 unfolding allZero
 zero-end s i h = rw (drop-of-length-le s h)
 
--- ---- a front compared
+-- ---- the first three bytes
 pub three : (s : List ℕ) → 3 ≤ length s → take 3 s ≡ getD s 0 0 ∷ getD s 1 0 ∷ getD s 2 0 ∷ []
 three s h = rw (take-suc s 2 0 h, take-suc s 1 0 (omega arith), take-suc s 0 0 (omega arith))
 

@@ -11,7 +11,7 @@ use Rattle.wire.proofs.Lists.{nil-of}
 use Rattle.wire.proofs.Fields.{to-end}
 use Rattle.aes.specs.Ctr.{blocksFor, ctrOf}
 use Rattle.aes.proofs.KeyStream.{length-ctr, ctr-twice}
-use Rattle.envelope.specs.Blocks.{paddingFor, padded, enveloped, blocksIn, deciphered, wrongLength, packetNonce}
+use Rattle.envelope.specs.Blocks.{paddingFor, padded, enveloped, blocksIn, deciphered, wrongLength, nonceNumber}
 use Rattle.envelope.proofs.Bytes.{three}
 
 -- `blocksFor n` blocks hold n bytes, and fewer do not
@@ -27,7 +27,7 @@ length-padded s =
     omega (arith, length-append s (replicate k 0), length-replicate {A = ℕ} k 0)
 
 -- a packet nonce is that of the first three bytes
-number-front : (s : List ℕ) → packetNonce (take 3 s) ≡ packetNonce s
+number-front : (s : List ℕ) → nonceNumber (take 3 s) ≡ nonceNumber s
 number-front s = rw (getD-take 3 s 0 0 (omega arith), getD-take 3 s 1 0 (omega arith), getD-take 3 s 2 0 (omega arith))
 
 module _ (key pn sn : List ℕ) (id : ℕ) (text : List ℕ) (three-bytes : length pn ≡ 3) where
@@ -39,8 +39,8 @@ module _ (key pn sn : List ℕ) (id : ℕ) (text : List ℕ) (three-bytes : leng
   unfolding enveloped
   nonce-enveloped = take-at pn (id ∷ ctrOf key pn sn text) 3 three-bytes
 
-  pub number-enveloped : packetNonce (enveloped key pn sn id text) ≡ packetNonce pn
-  number-enveloped = sym (number-front (enveloped key pn sn id text)) ∙ ap packetNonce nonce-enveloped
+  pub number-enveloped : nonceNumber (enveloped key pn sn id text) ≡ nonceNumber pn
+  number-enveloped = sym (number-front (enveloped key pn sn id text)) ∙ ap nonceNumber nonce-enveloped
 
   pub id-enveloped : getD (enveloped key pn sn id text) 3 0 ≡ id
   unfolding enveloped

@@ -14,7 +14,7 @@ use Rattle.wire.specs.Numbers.{num}
 use Rattle.wire.specs.Choice.{pick}
 use Rattle.wire.specs.Rules.{_when_, firstBroken}
 use Rattle.aes.specs.Ctr.{blocksFor}
-use Rattle.envelope.specs.Blocks.{paddingFor, padded, blocksIn, packetNonce, deciphered, wrongLength, notLeast}
+use Rattle.envelope.specs.Blocks.{paddingFor, padded, blocksIn, nonceNumber, deciphered, wrongLength, notLeast}
 use Rattle.envelope.specs.Sealed.{unpadded, plainText, sealedImage, messageSize, messageMisfit, lateRules, messageIn}
 use Rattle.envelope.specs.Characteristic.{characteristicText, characteristicImage, packetSize, allZero, characteristicRules, packetIn}
 use Rattle.envelope.proofs.Envelopes.{length-padded, length-enveloped, nonce-enveloped, number-enveloped, id-enveloped, deciphered-enveloped, same-enveloped, whole-padded}
@@ -105,7 +105,7 @@ module _ (key pn sn m : List ℕ) (three-bytes : length pn ≡ 3) where
   unfolding sealedImage
   sealed-nonce = nonce-enveloped key pn sn 0 (plainText m) three-bytes
 
-  pub sealed-number : packetNonce (sealedImage key pn sn m) ≡ packetNonce pn
+  pub sealed-number : nonceNumber (sealedImage key pn sn m) ≡ nonceNumber pn
   unfolding sealedImage
   sealed-number = number-enveloped key pn sn 0 (plainText m) three-bytes
 
@@ -225,7 +225,7 @@ module _ (key pn sn : List ℕ) (level : ℕ) (v p : List ℕ) (three-bytes : le
   unfolding characteristicImage
   characteristic-nonce = nonce-enveloped key pn sn level (characteristicText v p) three-bytes
 
-  pub characteristic-number : packetNonce (characteristicImage key pn sn level v p) ≡ packetNonce pn
+  pub characteristic-number : nonceNumber (characteristicImage key pn sn level v p) ≡ nonceNumber pn
   unfolding characteristicImage
   characteristic-number = number-enveloped key pn sn level (characteristicText v p) three-bytes
 

@@ -56,13 +56,17 @@ lengthRule payload = 7 when wrongLength payload
 abbrev pub roomRule : List ℕ → ℕ → Rule
 roomRule payload room = 25 when ltb room (16 * blocksIn payload)
 
--- the packet nonce, as one number
-abbrev pub packetNonce : List ℕ → ℕ
-packetNonce payload = num 3 0 payload
+-- the number of the packet nonce, which stands in front
+abbrev pub nonceNumber : List ℕ → ℕ
+nonceNumber payload = num 3 0 payload
 
--- 28 (document 02 §6): the packet nonce is one that is remembered
+-- document 02 §6: a packet nonce used again is one of those remembered
+abbrev pub usedAgain : NonceMemory → List ℕ → Bool
+usedAgain memory payload = among (nonceNumber payload) (remembered memory)
+
+-- 28: a packet nonce used again
 abbrev pub nonceRule : NonceMemory → List ℕ → Rule
-nonceRule memory payload = 28 when among (packetNonce payload) (remembered memory)
+nonceRule memory payload = 28 when usedAgain memory payload
 
 -- the blocks are not the least number that holds so many bytes
 unfoldable pub notLeast : List ℕ → ℕ → Bool

@@ -10,7 +10,7 @@ ghost use lib.ListN.{take, drop};
 ghost use Rattle.wire.specs.Rules.{firstBroken};
 ghost use Rattle.wire.specs.Same.{sameBytes};
 ghost use Rattle.wire.specs.Writing.{Stores, noRoom};
-ghost use Rattle.envelope.specs.Blocks.{blocksIn, deciphered, lengthRule, roomRule, packetNonce, nonceRule, notLeast, cleared};
+ghost use Rattle.envelope.specs.Blocks.{blocksIn, deciphered, lengthRule, roomRule, nonceNumber, nonceRule, notLeast, cleared};
 ghost use Rattle.envelope.specs.Sealed.{messageSize, messageMisfit, lateRules, messageIn};
 ghost use Rattle.envelope.specs.Characteristic.{packetSize, packetMisfit, allZero, characteristicRules, packetIn};
 
@@ -48,9 +48,9 @@ pub fn judge_room(payload: &[u8], room: usize) -> u8
     0
 }
 
-// The packet nonce, as one number.
-pub fn packet_nonce(payload: &[u8]) -> u32
-    ensures { λ r. ⌜ r ≡ packetNonce (now (payload .entry)) ⌝ }
+// The number of the packet nonce.
+pub fn nonce_number(payload: &[u8]) -> u32
+    ensures { λ r. ⌜ r ≡ nonceNumber (now (payload .entry)) ⌝ }
 {
     (wire::read_u16(payload, 0) as u32) + 65536 * (wire::byte_at(payload, 2) as u32)
 }
@@ -59,7 +59,7 @@ pub fn packet_nonce(payload: &[u8]) -> u32
 pub fn judge_nonce(memory: NonceMemory, payload: &[u8]) -> u8
     ensures { λ r. ⌜ r ≡ firstBroken (nonceRule memory (now (payload .entry)) ∷ []) ⌝ }
 {
-    if memory.holds(packet_nonce(payload)) {
+    if memory.holds(nonce_number(payload)) {
         return 28;
     }
     0

@@ -1,4 +1,4 @@
--- A session that remembers one more packet nonce is there and valid as before, and what it remembers is in order. Assumes nothing.
+-- A session that remembers one more packet nonce is there and valid as before, and remembers the others too. Assumes nothing.
 use mathlib.Core.Path.{_≡_, refl, ap, ap₂, sym, _∙_}
 use mathlib.Core.Bool.{Bool, true, false, _&&_}
 use mathlib.Core.List.{List, [], _∷_}
@@ -11,7 +11,7 @@ use Rattle.wire.proofs.Choice.{and-holds}
 use Rattle.wire.proofs.Same.{same-self}
 use Rattle.units.specs.declared.Minutes.{Minutes}
 use Rattle.units.specs.declared.Seconds.{Seconds}
-use Rattle.session.specs.Memory.{emptyMemory, countFits, remembered, inLimits, inFront, remembering}
+use Rattle.session.specs.Memory.{emptyMemory, countFits, remembered, limited, inFront, remembering}
 use Rattle.session.specs.Session.{memoryAfter, sessionThere, withNonce, validAt, sessionRemembering, connectionThere, withData, connectionRemembering}
 use Rattle.session.specs.declared.NonceMemory.{NonceMemory}
 use Rattle.session.specs.declared.Session.{Session}
@@ -19,7 +19,7 @@ use Rattle.session.specs.declared.Connection.{Connection}
 use Rattle.session.proofs.Remembered.{one-more-fits, remembers-one}
 
 module _ (s : Session) (n : ℕ) (there : sessionThere s ≡ true) where
-  session-is : sessionRemembering s n ≡ record { held = true; nonce = s .nonce; timeout = s .timeout; since = s .since; memory = remembering (s .memory) n }
+  session-is : sessionRemembering s n ≡ record { held = s .held; nonce = s .nonce; timeout = s .timeout; since = s .since; memory = remembering (s .memory) n }
   unfolding sessionRemembering
   session-is = rw there
 
@@ -28,7 +28,7 @@ module _ (s : Session) (n : ℕ) (there : sessionThere s ≡ true) where
 
   pub session-there : sessionThere (sessionRemembering s n) ≡ true
   unfolding sessionThere
-  session-there = ap sessionThere session-is ∙ one-more-fits (s .memory) n
+  session-there = ap sessionThere session-is ∙ rw (and-holds (s .held) (countFits (s .memory)) there .0) (one-more-fits (s .memory) n)
 
   pub session-valid : (t : Seconds) → validAt (sessionRemembering s n) t ≡ validAt s t
   unfolding validAt
@@ -39,16 +39,13 @@ module _ (s : Session) (n : ℕ) (there : sessionThere s ≡ true) where
   session-remembers = ap (λ (x : Session). remembered (x .memory)) session-is ∙ remembers-one (s .memory) n
 
 module _ (c : Connection) (n : ℕ) (there : connectionThere c ≡ true) where
-  connection-is : connectionRemembering c n ≡ record { held = true; nonce = c .nonce; validation = c .validation; memory = remembering (c .memory) n }
+  connection-is : connectionRemembering c n ≡ record { held = c .held; nonce = c .nonce; validation = c .validation; memory = remembering (c .memory) n }
   unfolding connectionRemembering
   connection-is = rw there
 
-  pub connection-nonce : connectionRemembering c n .nonce ≡ c .nonce
-  connection-nonce = ap (λ (x : Connection). x .nonce) connection-is
-
   pub connection-there : connectionThere (connectionRemembering c n) ≡ true
   unfolding connectionThere
-  connection-there = ap connectionThere connection-is ∙ one-more-fits (c .memory) n
+  connection-there = ap connectionThere connection-is ∙ rw (and-holds (c .held) (countFits (c .memory)) there .0) (one-more-fits (c .memory) n)
 
   pub connection-remembers : remembered (connectionRemembering c n .memory) ≡ inFront n (remembered (c .memory))
   connection-remembers = ap (λ (x : Connection). remembered (x .memory)) connection-is ∙ remembers-one (c .memory) n
@@ -87,7 +84,7 @@ abbrev nine : NonceMemory
 nine = remembering (remembering (remembering (remembering (remembering (remembering (remembering (remembering (remembering emptyMemory 1) 2) 3) 4) 5) 6) 7) 8) 9
 
 eight-kept : remembered nine ≡ 9 ∷ 8 ∷ 7 ∷ 6 ∷ 5 ∷ 4 ∷ 3 ∷ 2 ∷ []
-unfolding remembering remembered inLimits
+unfolding remembering remembered limited
 eight-kept = refl
 
 -- a count of 9 is taken as fresh
@@ -95,13 +92,13 @@ abbrev outside : NonceMemory
 outside = record { count = 9; nonces = replicate 8 5 }
 
 none-kept : remembered outside ≡ []
-unfolding remembered inLimits
+unfolding remembered limited
 none-kept = refl
 
 abbrev holding : NonceMemory → Session
 holding m = record { held = true; nonce = 1 ∷ 2 ∷ 3 ∷ 4 ∷ 5 ∷ []; timeout = record { 0 = 1 }; since = record { 0 = 100 }; memory = m }
 
--- so the session is none: it has no validity and remembers nothing
+-- so the session is none, and remembering leaves it as it is
 is-none : sessionThere (holding outside) ≡ false
 unfolding sessionThere
 is-none = refl
@@ -115,11 +112,11 @@ abbrev after : NonceMemory → List ℕ → NonceMemory
 after m nonce = withNonce (holding m) nonce (record { 0 = 1 }) (record { 0 = 999 }) .memory
 
 same-nonce : after nine (1 ∷ 2 ∷ 3 ∷ 4 ∷ 5 ∷ []) ≡ nine
-unfolding memoryAfter sessionThere remembering inLimits
+unfolding memoryAfter sessionThere remembering limited
 same-nonce = refl
 
 other-nonce : after nine (1 ∷ 2 ∷ 3 ∷ 4 ∷ 6 ∷ []) ≡ emptyMemory
-unfolding memoryAfter sessionThere remembering inLimits
+unfolding memoryAfter sessionThere remembering limited
 other-nonce = refl
 
 of-none : after outside (1 ∷ 2 ∷ 3 ∷ 4 ∷ 5 ∷ []) ≡ emptyMemory

@@ -11,13 +11,13 @@ use lib.Dec.{eqb}
 use borrow.Author.Tests.{leb-true, le-leb, eq-eqb}
 use Rattle.wire.specs.Choice.{pick}
 use Rattle.wire.specs.Rules.{among}
-use Rattle.wire.proofs.Choice.{true-false}
-use Rattle.session.specs.Memory.{emptyMemory, countFits, inLimits, remembered, inFront, remembering}
+use Rattle.wire.proofs.Choice.{true-false, or-right}
+use Rattle.session.specs.Memory.{emptyMemory, countFits, limited, remembered, inFront, remembering}
 use Rattle.session.specs.declared.NonceMemory.{NonceMemory}
 
 -- at most eight
-pub limit-count : (m : NonceMemory) → inLimits m .count ≤ 8
-unfolding inLimits
+pub limit-count : (m : NonceMemory) → limited m .count ≤ 8
+unfolding limited
 limit-count m = go (countFits m) refl
   where
     go : (b : Bool) → countFits m ≡ b → pick b m emptyMemory .count ≤ 8
@@ -55,7 +55,7 @@ eight-places n ns e =
 -- at most eight, whatever it was
 pub one-more-fits : (m : NonceMemory) (n : ℕ) → countFits (remembering m n) ≡ true
 unfolding remembering
-one-more-fits m n = le-leb (min 8 (inLimits m .count + 1)) 8 (omega arith)
+one-more-fits m n = le-leb (min 8 (limited m .count + 1)) 8 (omega arith)
 
 take-take : (a b : ℕ) (l : List ℕ) → take a (take b l) ≡ take (min a b) l
 take-take zero b l = simp unary-clauses refl
@@ -64,16 +64,16 @@ take-take (suc a) (suc b) [] = simp unary-clauses refl
 take-take (suc a) (suc b) (x ∷ l) = simp unary-clauses (ap (λ (t : List ℕ). x ∷ t) (take-take a b l))
 
 -- one within the limits is taken as it is
-limit-same : (m : NonceMemory) → countFits m ≡ true → inLimits m ≡ m
-unfolding inLimits
+limit-same : (m : NonceMemory) → countFits m ≡ true → limited m ≡ m
+unfolding limited
 limit-same m e = rw e
 
 -- it remembers the nonce and, behind it, those that it remembered, eight in all
 pub remembers-one : (m : NonceMemory) (n : ℕ) → remembered (remembering m n) ≡ inFront n (remembered m)
 unfolding remembered remembering
 remembers-one m n =
-    let c : ℕ = inLimits m .count in
-    let ns : List ℕ = inLimits m .nonces in
+    let c : ℕ = limited m .count in
+    let ns : List ℕ = limited m .nonces in
     let e : min (min 8 (c + 1)) 8 ≡ min 8 (suc c) = omega arith in
     ap (λ (x : NonceMemory). take (x .count) (x .nonces)) (limit-same (remembering m n) (one-more-fits m n))
     ∙ take-take (min 8 (c + 1)) 8 (n ∷ ns)
@@ -81,10 +81,6 @@ remembers-one m n =
     ∙ sym (take-take 8 (suc c) (n ∷ ns))
 
 -- ---- a nonce among the first few of those remembered
-or-right : (a b : Bool) → b ≡ true → (a || b) ≡ true
-or-right true b e = refl
-or-right false b e = e
-
 -- it stands in front when it was put there
 pub first-of : (n : ℕ) (ns : List ℕ) → among n (take 1 (inFront n ns)) ≡ true
 first-of n ns = rw (eq-eqb n n refl) refl

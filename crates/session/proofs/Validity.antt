@@ -6,6 +6,7 @@ use Prim.Native.Nat.{ℕ, _-_, _*_, _/_, _≤_, _<_}
 use native.Mathlib.Omega.{arith}
 use lib.Dec.{ltb}
 use borrow.Author.Tests.{ltb-true, ltb-false, le-leb, lt-leb, lt-ltb, le-ltb}
+use Rattle.wire.proofs.Choice.{and-false}
 use Rattle.units.specs.declared.Seconds.{Seconds}
 use Rattle.session.specs.declared.Session.{Session}
 use Rattle.session.specs.Session.{noSession, sessionThere, memoryAfter, withNonce, validAt}
@@ -21,10 +22,6 @@ whole-minutes x t = by (ltb (x / 60) t) refl
     by false e =
         let h : t ≤ x / 60 = ltb-false _ _ e in
         e ∙ sym (le-ltb x (60 * t) (omega arith))
-
-and-false : (a : Bool) → (a && false) ≡ false
-and-false true = refl
-and-false false = refl
 
 and-true : (a : Bool) → (a && true) ≡ a
 and-true true = refl

@@ -15,17 +15,17 @@ abbrev pub countFits : NonceMemory → Bool
 countFits m = leb (m .count) 8
 
 -- one whose count lies outside is taken as fresh
-unfoldable pub inLimits : NonceMemory → NonceMemory
-inLimits m = pick (countFits m) m emptyMemory
+unfoldable pub limited : NonceMemory → NonceMemory
+limited m = pick (countFits m) m emptyMemory
 
 -- those remembered
 unfoldable pub remembered : NonceMemory → List ℕ
-remembered m = take (inLimits m .count) (inLimits m .nonces)
+remembered m = take (limited m .count) (limited m .nonces)
 
 -- one more: it is put in front, and eight are kept
 abbrev pub inFront : ℕ → List ℕ → List ℕ
 inFront n ns = take 8 (n ∷ ns)
 
--- the record after it, in the places too that its count does not reach. `remembers-one`: it remembers `inFront n (remembered m)`
+-- the record after it, every place. It remembers `inFront n (remembered m)`: `remembers-one`, proofs/Remembered.antt
 unfoldable pub remembering : NonceMemory → ℕ → NonceMemory
-remembering m n = record { count = min 8 (inLimits m .count + 1); nonces = inFront n (inLimits m .nonces) }
+remembering m n = record { count = min 8 (limited m .count + 1); nonces = inFront n (limited m .nonces) }

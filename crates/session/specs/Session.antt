@@ -13,9 +13,9 @@ use Rattle.session.specs.declared.NonceMemory.{NonceMemory}
 use Rattle.session.specs.declared.Session.{Session}
 use Rattle.session.specs.declared.Connection.{Connection}
 
--- the memory after an accepted session nonce: emptied, unless it equals the one held; where there is none, none is held
+-- the memory after an accepted session nonce: emptied, unless it equals the one held; where there is no session, no nonce is held
 unfoldable pub memoryAfter : Bool → List ℕ → NonceMemory → List ℕ → NonceMemory
-memoryAfter there held memory nonce = pick (there && sameBytes held nonce) memory emptyMemory
+memoryAfter there old memory nonce = pick (there && sameBytes old nonce) memory emptyMemory
 
 -- ---- the user's session
 abbrev pub noSession : Session
@@ -39,10 +39,10 @@ validAt s now = sessionThere s && (leb (s .since .0) (now .0) && ltb (now .0 - s
 abbrev pub wholeMinutes : Seconds → Minutes
 wholeMinutes t = record { 0 = t .0 / 60 }
 
--- with a packet nonce remembered, and nothing else changed; one that is none stays as it is
+-- with the number of a packet nonce remembered, and nothing else changed; one that is none stays as it is
 unfoldable pub sessionRemembering : Session → ℕ → Session
 sessionRemembering s n =
-    pick (sessionThere s) (record { held = true; nonce = s .nonce; timeout = s .timeout; since = s .since; memory = remembering (s .memory) n }) s
+    pick (sessionThere s) (record { held = s .held; nonce = s .nonce; timeout = s .timeout; since = s .since; memory = remembering (s .memory) n }) s
 
 -- ---- the connection session, which does not run out
 abbrev pub noConnection : Connection
@@ -58,4 +58,4 @@ withData c nonce validation =
 
 unfoldable pub connectionRemembering : Connection → ℕ → Connection
 connectionRemembering c n =
-    pick (connectionThere c) (record { held = true; nonce = c .nonce; validation = c .validation; memory = remembering (c .memory) n }) c
+    pick (connectionThere c) (record { held = c .held; nonce = c .nonce; validation = c .validation; memory = remembering (c .memory) n }) c

@@ -7,7 +7,8 @@ use access::Mode;
 use units::Minutes;
 use units::Seconds;
 ghost use mathlib.Core.Path.{_≡_};
-ghost use Rattle.session.specs.Session.{memoryAfter, noSession, sessionThere, withNonce, wholeMinutes, validAt, sessionRemembering, noConnection, connectionThere, withData, connectionRemembering};
+ghost use Rattle.session.specs.Session.{memoryAfter, noSession, sessionThere, withNonce, wholeMinutes, validAt, sessionRemembering};
+ghost use Rattle.session.specs.Session.{noConnection, connectionThere, withData, connectionRemembering};
 ghost use Rattle.session.specs.Keys.{noKey, keyFor, keyForNumber};
 
 // The packet nonces of the last encrypted messages, each a number of three bytes.
@@ -56,11 +57,11 @@ fn whole_minutes(t: Seconds) -> Minutes
 }
 
 // The memory after an accepted session nonce: kept where it equals the one held, else empty.
-fn memory_after(there: bool, held: [u8; 5], memory: NonceMemory, nonce: [u8; 5]) -> NonceMemory
-    ensures { λ r. ⌜ r ≡ memoryAfter there held memory nonce ⌝ }
+fn memory_after(there: bool, old: [u8; 5], memory: NonceMemory, nonce: [u8; 5]) -> NonceMemory
+    ensures { λ r. ⌜ r ≡ memoryAfter there old memory nonce ⌝ }
 {
     if there {
-        if wire::same_bytes(&held, &nonce) {
+        if wire::same_bytes(&old, &nonce) {
             return memory;
         }
         return NonceMemory::empty();
@@ -122,22 +123,15 @@ impl Session {
         false
     }
 
-    // The session after an encrypted message that passed all of 10 to 13: its packet nonce is remembered.
-    pub fn remember(self, packet_nonce: u32) -> Session
-        ensures { λ r. ⌜ r ≡ sessionRemembering self «packet_nonce» ⌝ }
+    // The session after an encrypted message that passed all of 10 to 13: the number of its packet nonce is remembered. One that is none stays as it is.
+    pub fn remember(self, number: u32) -> Session
+        ensures { λ r. ⌜ r ≡ sessionRemembering self number ⌝ }
     {
         if self.is_there() {
-            let nonce = self.nonce;
-            let timeout = self.timeout;
-            let since = self.since;
             let memory = self.memory;
-            return Session {
-                held: true,
-                nonce,
-                timeout,
-                since,
-                memory: memory.remember(packet_nonce),
-            };
+            let mut next = self;
+            next.memory = memory.remember(number);
+            return next;
         }
         self
     }
@@ -179,20 +173,15 @@ impl Connection {
         }
     }
 
-    // The connection session after a packet that passed all of 10 to 13: its packet nonce is remembered.
-    pub fn remember(self, packet_nonce: u32) -> Connection
-        ensures { λ r. ⌜ r ≡ connectionRemembering self «packet_nonce» ⌝ }
+    // The connection session after a packet that passed all of 10 to 13, in the same way.
+    pub fn remember(self, number: u32) -> Connection
+        ensures { λ r. ⌜ r ≡ connectionRemembering self number ⌝ }
     {
         if self.is_there() {
-            let nonce = self.nonce;
-            let validation = self.validation;
             let memory = self.memory;
-            return Connection {
-                held: true,
-                nonce,
-                validation,
-                memory: memory.remember(packet_nonce),
-            };
+            let mut next = self;
+            next.memory = memory.remember(number);
+            return next;
         }
         self
     }

@@ -3,7 +3,7 @@ use crate::NonceMemory;
 ghost use mathlib.Core.Path.{_≡_};
 ghost use Prim.Native.Nat.{_+_, min};
 ghost use Rattle.wire.specs.Rules.{among};
-ghost use Rattle.session.specs.Memory.{emptyMemory, countFits, inLimits, remembered, remembering};
+ghost use Rattle.session.specs.Memory.{emptyMemory, countFits, limited, remembered, remembering};
 
 // One more, of at most eight.
 fn one_more(count: usize) -> usize
@@ -30,8 +30,8 @@ impl NonceMemory {
     }
 
     // One whose count lies outside is taken as fresh.
-    fn in_limits(self) -> NonceMemory
-        ensures { λ r. ⌜ r ≡ inLimits self ⌝ }
+    fn limited(self) -> NonceMemory
+        ensures { λ r. ⌜ r ≡ limited self ⌝ }
     {
         if self.fits() {
             return self;
@@ -39,16 +39,16 @@ impl NonceMemory {
         NonceMemory::empty()
     }
 
-    // Whether a packet nonce is remembered.
-    pub fn holds(self, packet_nonce: u32) -> bool
-        ensures { λ r. ⌜ r ≡ among «packet_nonce» (remembered self) ⌝ }
+    // Whether a packet nonce is remembered, by its number.
+    pub fn holds(self, number: u32) -> bool
+        ensures { λ r. ⌜ r ≡ among number (remembered self) ⌝ }
     {
-        let memory = self.in_limits();
+        let memory = self.limited();
         let count = memory.count;
         let nonces = memory.nonces;
         let mut i: usize = 0;
         while i < count {
-            if packet_nonce == nonces[i] {
+            if number == nonces[i] {
                 return true;
             }
             i += 1;
@@ -57,14 +57,14 @@ impl NonceMemory {
     }
 
     // The memory after one more, which is put in front; eight are kept.
-    pub fn remember(self, packet_nonce: u32) -> NonceMemory
-        ensures { λ r. ⌜ r ≡ remembering self «packet_nonce» ⌝ }
+    pub fn remember(self, number: u32) -> NonceMemory
+        ensures { λ r. ⌜ r ≡ remembering self number ⌝ }
     {
-        let memory = self.in_limits();
+        let memory = self.limited();
         let n = memory.nonces;
         NonceMemory {
             count: one_more(memory.count),
-            nonces: [packet_nonce, n[0], n[1], n[2], n[3], n[4], n[5], n[6]],
+            nonces: [number, n[0], n[1], n[2], n[3], n[4], n[5], n[6]],
         }
     }
 }

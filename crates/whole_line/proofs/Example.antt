@@ -15,7 +15,7 @@ use Rattle.line.specs.Line as line
 use Rattle.line.specs.Line.{refusal, frame, frameGives, valueGives, escapedGives, insideGives, gives, run, after}
 use Rattle.line.specs.declared.Receiver.{Receiver}
 use Rattle.access.specs.declared.Mode.the-variants.{Normal}
-use Rattle.session.specs.Memory.{emptyMemory, inLimits, remembered}
+use Rattle.session.specs.Memory.{emptyMemory, limited, remembered}
 use Rattle.session.specs.Session.{sessionThere, validAt}
 use Rattle.session.specs.Keys.{noKey}
 use Rattle.aes.specs.Field.{_•_, times, xtime}
@@ -109,7 +109,7 @@ ready = (tt, (tt, ((refl, room), tt)))
 
 -- the session remembers nothing at the start
 differ : AllDiffer (remembered (g .session .memory)) (items (first ∷ second ∷ third ∷ []))
-unfolding remembered inLimits
+unfolding remembered limited
 differ = (tt, (tt, (refl, tt)))
 
 abbrev itemContents : List Item → List (Judged Content Given)

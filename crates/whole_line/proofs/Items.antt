@@ -1,13 +1,13 @@
 -- One message of the list: it is written, handed out and opened as demand 3 says. Assumes nothing.
 use mathlib.Core.Path.{_≡_, refl, sym, ap, ap₂, _∙_, subst}
 use mathlib.Core.Bool.{true, false}
-use mathlib.Core.List.{List, _++_}
+use mathlib.Core.List.{List, [], _∷_, _++_}
 use Prim.Native.Nat.{ℕ, _+_, _*_, _≤_}
 use native.Mathlib.Omega.{arith}
 use lib.ListN.{length, drop, replicate}
 use lib.Seq.{take-length}
 use borrow.Author.Tests.{le-ltb}
-use Rattle.wire.specs.Rules.{firstBroken}
+use Rattle.wire.specs.Rules.{_when_, firstBroken, among}
 use Rattle.wire.specs.Writing.{writerRules}
 use Rattle.wire.proofs.Lookup.{lookup-all}
 use Rattle.wire.proofs.Writers.{wrote}
@@ -28,7 +28,7 @@ use Rattle.session.specs.declared.Keys.{Keys}
 use Rattle.session.specs.declared.Session.{Session}
 use Rattle.session.proofs.Kept.{session-nonce, session-there, session-valid, session-remembers}
 use Rattle.aes.specs.Ctr.{blocksFor}
-use Rattle.envelope.specs.Blocks.{outside, sealerRules, blocksIn, packetNonce}
+use Rattle.envelope.specs.Blocks.{outside, sealerRules, blocksIn, nonceNumber}
 use Rattle.envelope.specs.Sealed.{plainText, lateRules, messageIn}
 use Rattle.envelope.proofs.Unsealed.{sealed-number, sealed-id, sealed-length, sealed-whole, unsealed, late-plain, message-plain, message-behind, same-sealed}
 use Rattle.bridge.specs.Content.{answerContent}
@@ -45,7 +45,7 @@ inside : (least most n : ℕ) → least ≤ n → n ≤ most → outside least m
 inside least most n h k = simp (le-ltb _ _ h, le-ltb _ _ k)
 
 -- the admin key is held in normal mode
-pub key-held : (k : Keys) (m : Mode) → m ≡ Normal → k .admin .held ≡ true → keyFor k m Admin .held ≡ true
+key-held : (k : Keys) (m : Mode) → m ≡ Normal → k .admin .held ≡ true → keyFor k m Admin .held ≡ true
 key-held k m e h = ap (λ (x : Mode). keyFor k x Admin .held) e ∙ h
 
 -- 4 + 16n bytes for at most 490
@@ -110,12 +110,29 @@ module _ (g : Context) (s : Session) (t : Seconds) where
       ∙ ap₂ openedAs (plain-answer m ok)
       (sym (plain-session here m) ∙ ap (sessionByAnswer here) (plain-answer m ok) ∙ keeps here m (ok .other))
 
+  -- of what is asked before the blocks are deciphered, 28 alone is left
+  pub asks : (ns pn m : List ℕ) → AtTurn g s ns → Permitted g Encrypted 490 m → Sealable g pn → validAt (g .session) t ≡ true
+      → (room : ℕ) → 16 * blocksIn (wrapped g (sealed pn m)) ≤ room
+      → firstBroken (uartEntryRules here room (wrapped g (sealed pn m))) ≡ firstBroken ((28 when among (nonceNumber pn) ns) ∷ [])
+  unfolding uartEntryRules sessionRules
+  asks ns pn m turn ok may valid room h =
+      rw (
+        sealed-whole (adminKey g .bytes) pn (g .session .nonce) m (may .three) (ok .long),
+        le-ltb room (16 * blocksIn (wrapped g (sealed pn m))) h,
+        sealed-id (adminKey g .bytes) pn (g .session .nonce) m (may .three),
+        key-held (g .keys) (g .mode) (may .normal) (may .held),
+        turn .there (may .there),
+        turn .valid t ∙ valid,
+        sealed-number (adminKey g .bytes) pn (g .session .nonce) m (may .three),
+        turn .remembers,
+      )
+
   module _ (ns pn m : List ℕ) (turn : AtTurn g s ns) (ok : Permitted g Encrypted 490 m) (may : Sealable g pn)
       (valid : validAt (g .session) t ≡ true) (differs : Differs ns (sealed pn m)) where
     abbrev p : List ℕ
     p = wrapped g (sealed pn m)
 
-    number-is : packetNonce p ≡ packetNonce pn
+    number-is : nonceNumber p ≡ nonceNumber pn
     number-is = sealed-number (adminKey g .bytes) pn (g .session .nonce) m (may .three)
 
     text-is : uartText here p ≡ plainText m
@@ -123,19 +140,7 @@ module _ (g : Context) (s : Session) (t : Seconds) where
     text-is = rw (turn .nonce) (unsealed (adminKey g .bytes) pn (g .session .nonce) m (may .three))
 
     enters : (room : ℕ) → 16 * blocksIn p ≤ room → firstBroken (uartEntryRules here room p) ≡ 0
-    unfolding uartEntryRules sessionRules
-    enters room h =
-        rw (
-          sealed-whole (adminKey g .bytes) pn (g .session .nonce) m (may .three) (ok .long),
-          le-ltb room (16 * blocksIn p) h,
-          sealed-id (adminKey g .bytes) pn (g .session .nonce) m (may .three),
-          key-held (g .keys) (g .mode) (may .normal) (may .held),
-          turn .there (may .there),
-          turn .valid t ∙ valid,
-          number-is,
-          turn .remembers,
-          differs,
-        )
+    enters room h = asks ns pn m turn ok may valid room h ∙ rw differs
 
     reads : firstBroken (uartTextRules here (plainText m)) ≡ 0
     unfolding uartTextRules
@@ -143,7 +148,7 @@ module _ (g : Context) (s : Session) (t : Seconds) where
         first-right (lateRules (plainText m)) (messageRules Encrypted (g .required) (g .mode) (messageIn (plainText m))) (late-plain m (ok .short))
         ∙ ap (λ (l : List ℕ). firstBroken (messageRules Encrypted (g .required) (g .mode) l)) (message-plain m (ok .short)) ∙ ok .clear
 
-    sealed-opens : (room : ℕ) → 16 * blocksIn p ≤ room → opened here room 1 128 p ≡ openedAs (acceptedMessage true 6 m) (sessionRemembering s (packetNonce p))
+    sealed-opens : (room : ℕ) → 16 * blocksIn p ≤ room → opened here room 1 128 p ≡ openedAs (acceptedMessage true 6 m) (sessionRemembering s (nonceNumber p))
     unfolding sealedAnswer textAnswer sealedSession textSession
     sealed-opens room h =
         sym (sealed-opened here room p)
@@ -152,9 +157,9 @@ module _ (g : Context) (s : Session) (t : Seconds) where
         ∙ ap (textAnswer here) text-is
         ∙ judge-pass refusedAnswer (uartTextRules here (plainText m)) (acceptedMessage true 6 (messageIn (plainText m))) reads
         ∙ ap (acceptedMessage true 6) (message-plain m (ok .short)))
-        (judge-pass (λ n. s) (uartEntryRules here room p) (textSession here (packetNonce p) (uartText here p)) (enters room h)
-        ∙ ap (textSession here (packetNonce p)) text-is
-        ∙ judge-pass (λ n. s) (lateRules (plainText m)) (sessionRemembering s (packetNonce p)) (late-plain m (ok .short)))
+        (judge-pass (λ n. s) (uartEntryRules here room p) (textSession here (nonceNumber p) (uartText here p)) (enters room h)
+        ∙ ap (textSession here (nonceNumber p)) text-is
+        ∙ judge-pass (λ n. s) (lateRules (plainText m)) (sessionRemembering s (nonceNumber p)) (late-plain m (ok .short)))
 
     sealed-work : (work : List ℕ) → 16 * blocksIn p ≤ length work → workAfter here 1 128 p work ≡ plainText m ++ drop (16 * blocksIn p) work
     unfolding sealedWork
@@ -166,14 +171,14 @@ module _ (g : Context) (s : Session) (t : Seconds) where
         (judge-pass (λ n. replicate (16 * blocksIn p) 0) (uartTextRules here (plainText m)) (plainText m) reads)
 
     -- the next turn
-    sealed-turn : AtTurn g (sessionRemembering s (packetNonce p)) (rememberedAfter ns (sealed pn m))
+    sealed-turn : AtTurn g (sessionRemembering s (nonceNumber p)) (rememberedAfter ns (sealed pn m))
     sealed-turn =
         let e = turn .there (may .there) in
         record {
-          nonce = session-nonce s (packetNonce p) e ∙ turn .nonce;
-          there = λ i. session-there s (packetNonce p) e;
-          valid = λ x. session-valid s (packetNonce p) e x ∙ turn .valid x;
-          remembers = session-remembers s (packetNonce p) e ∙ ap₂ inFront number-is (turn .remembers);
+          nonce = session-nonce s (nonceNumber p) e ∙ turn .nonce;
+          there = λ i. session-there s (nonceNumber p) e;
+          valid = λ x. session-valid s (nonceNumber p) e x ∙ turn .valid x;
+          remembers = session-remembers s (nonceNumber p) e ∙ ap₂ inFront number-is (turn .remembers);
         }
 
 -- ---- an opening of an item

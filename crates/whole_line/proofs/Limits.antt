@@ -9,7 +9,7 @@ use lib.ListN.{length, replicate}
 use Rattle.line.specs.Receive.{freshReceiver}
 use Rattle.line.specs.Line.{after}
 use Rattle.access.specs.declared.Mode.the-variants.{Normal}
-use Rattle.session.specs.Memory.{inLimits, remembered}
+use Rattle.session.specs.Memory.{limited, remembered}
 use Rattle.session.specs.Session.{sessionThere, validAt}
 use Rattle.envelope.proofs.Unsealed.{sealed-blocks}
 use Rattle.bridge.specs.Opener.{adminKey}
@@ -76,7 +76,7 @@ ready = (
 )
 
 differ : AllDiffer (remembered (g .session .memory)) (items limits)
-unfolding remembered inLimits
+unfolding remembered limited
 differ = (tt, (tt, (refl, (refl, tt))))
 
 -- the claim for them

@@ -7,7 +7,7 @@ use native.Mathlib.Omega.{arith}
 use lib.ListN.{length, getD}
 use lib.Dec.{ltb}
 use Rattle.wire.specs.Parts.{partOf}
-use Rattle.wire.specs.Rules.{Rule, _when_, firstBroken, among, verdict}
+use Rattle.wire.specs.Rules.{Rule, _when_, firstBroken, verdict}
 use Rattle.wire.specs.Writing.{Writes}
 use Rattle.wire.specs.declared.Written.{Written}
 use Rattle.wire.specs.declared.Written.the-variants.{Refused}
@@ -19,13 +19,13 @@ use Rattle.line.specs.Line as line
 use Rattle.line.specs.Line.{refusal, frame, frameGives, valueGives, escapedGives, insideGives, gives, run}
 use Rattle.access.specs.declared.Mode.{Mode}
 use Rattle.access.specs.declared.Mode.the-variants.{Normal, Setup}
-use Rattle.session.specs.Memory.{inLimits, remembered, remembering}
+use Rattle.session.specs.Memory.{limited, remembered, remembering}
 use Rattle.session.specs.Session.{sessionThere, validAt, noSession, withNonce, sessionRemembering}
 use Rattle.session.specs.Keys.{noKey}
 use Rattle.session.specs.declared.Session.{Session}
 use Rattle.session.specs.declared.Keys.{Keys}
 use Rattle.aes.proofs.KeyStream.{length-ctr}
-use Rattle.envelope.specs.Blocks.{outside, Seals, blocksIn, packetNonce, wrongLength, enveloped, notLeast}
+use Rattle.envelope.specs.Blocks.{outside, Seals, blocksIn, nonceNumber, wrongLength, enveloped, notLeast}
 use Rattle.envelope.specs.Sealed.{sealedImage, plainText, lateRules, messageIn}
 use Rattle.envelope.proofs.Unsealed.{sealed-number, sealed-id, sealed-blocks, sealed-whole, unsealed, length-plain}
 use Rattle.bridge.specs.Opener.{adminKey, sessionRules, uartEntryRules, uartText, uartTextRules, plainRules, uartOpenRules, answerOf, sessionAfter, opened}
@@ -56,12 +56,12 @@ module _ (h : Context) (time room : ℕ) (m : List ℕ) (short : length m ≤ 10
   abbrev payload : List ℕ
   payload = wrapped h (sealed pn m)
 
-  -- 25; 10, 8 and 9; 28
+  -- 25; 10, 8, 9 and 28, of a payload with key ID 0 and that packet nonce
   abbrev rules : List Rule
-  rules = (25 when ltb room 16) ∷ (sessionRules here 0 ++ ((28 when among (packetNonce pn) (remembered (h .session .memory))) ∷ []))
+  rules = (25 when ltb room 16) ∷ sessionRules here (pn ++ (0 ∷ []))
 
   enters : firstBroken (uartEntryRules here room payload) ≡ firstBroken rules
-  unfolding uartEntryRules
+  unfolding uartEntryRules sessionRules
   enters =
       let n : blocksIn payload ≡ 1 = omega (arith, sealed-blocks (adminKey h .bytes) pn (h .session .nonce) m refl) in
       rw (
@@ -89,33 +89,33 @@ noKeys = record { admin = noKey; member = noKey; basic = noKey; setup = noKey }
 
 -- room one byte short; no admin key; setup mode; no session; the session run out; a clock behind
 pub short-room : got g 159 15 one ≡ refusedAnswer 25
-unfolding sessionRules validAt sessionThere remembered inLimits
+unfolding sessionRules validAt sessionThere remembered limited
 short-room = entered g 159 15 24 refl
 
 pub no-key : got (with (g .session) noKeys Normal) 159 16 one ≡ refusedAnswer 10
-unfolding sessionRules validAt sessionThere remembered inLimits
+unfolding sessionRules validAt sessionThere remembered limited
 no-key = entered (with (g .session) noKeys Normal) 159 16 9 refl
 
 pub in-setup : got (with (g .session) (g .keys) Setup) 159 16 one ≡ refusedAnswer 10
-unfolding sessionRules validAt sessionThere remembered inLimits
+unfolding sessionRules validAt sessionThere remembered limited
 in-setup = entered (with (g .session) (g .keys) Setup) 159 16 9 refl
 
 pub no-session : got (with noSession (g .keys) Normal) 159 16 one ≡ refusedAnswer 8
-unfolding sessionRules validAt sessionThere remembered inLimits
+unfolding sessionRules validAt sessionThere remembered limited
 no-session = entered (with noSession (g .keys) Normal) 159 16 7 refl
 
 pub run-out : got g 160 16 one ≡ refusedAnswer 9
-unfolding sessionRules validAt sessionThere remembered inLimits
+unfolding sessionRules validAt sessionThere remembered limited
 run-out = entered g 160 16 8 refl
 
 pub clock-behind : got g 99 16 one ≡ refusedAnswer 9
-unfolding sessionRules validAt sessionThere remembered inLimits
+unfolding sessionRules validAt sessionThere remembered limited
 clock-behind = entered g 99 16 8 refl
 
 -- a packet nonce that the session remembers
-pub nonce-again : got (with (sessionRemembering (g .session) (packetNonce pn)) (g .keys) Normal) 159 16 one ≡ refusedAnswer 28
-unfolding sessionRules validAt sessionThere remembered inLimits remembering sessionRemembering
-nonce-again = entered (with (sessionRemembering (g .session) (packetNonce pn)) (g .keys) Normal) 159 16 27 refl
+pub nonce-again : got (with (sessionRemembering (g .session) (nonceNumber pn)) (g .keys) Normal) 159 16 one ≡ refusedAnswer 28
+unfolding sessionRules validAt sessionThere remembered limited remembering sessionRemembering
+nonce-again = entered (with (sessionRemembering (g .session) (nonceNumber pn)) (g .keys) Normal) 159 16 27 refl
 
 -- a packet nonce of two bytes: the payload has 19, and gets 7
 two-bytes : length (wrapped g (sealed (8 ∷ 9 ∷ []) switch)) ≡ 19
@@ -184,7 +184,7 @@ broken-packet = refl
 
 -- encrypted where plain only. No message of the list gets 22: every command that normal mode permits is marked A
 pub broken-form : got g 159 16 (sealed pn hello) ≡ refusedAnswer 16
-unfolding sessionRules validAt sessionThere remembered inLimits textAnswer uartTextRules lateRules plainText messageIn notLeast
+unfolding sessionRules validAt sessionThere remembered limited textAnswer uartTextRules lateRules plainText messageIn notLeast
 broken-form = answered g 159 16 hello (omega arith) (omega arith) 0 refl
 
 -- ---- a session nonce in the list: the session after it is another

@@ -2,22 +2,21 @@
 use mathlib.Core.Path.{_≡_, refl, sym, ap, _∙_}
 use mathlib.Core.Bool.{true}
 use mathlib.Core.List.{List, [], _∷_, _++_}
-use Prim.Native.Nat.{ℕ, suc, _+_, _*_}
+use Prim.Native.Nat.{ℕ, suc, _+_}
 use native.Mathlib.Omega.{arith}
 use lib.ListN.{length, replicate}
-use borrow.Author.Tests.{le-ltb}
 use Rattle.wire.specs.Rules.{firstBroken, among, verdict}
 use Rattle.line.specs.Receive.{busy, freshReceiver}
 use Rattle.line.specs.Line as line
 use Rattle.line.specs.Line.{run, after}
 use Rattle.line.specs.declared.Receiver.{Receiver}
 use Rattle.access.specs.declared.Mode.the-variants.{Normal}
-use Rattle.session.specs.Memory.{inLimits, remembered}
+use Rattle.session.specs.Memory.{limited, remembered}
 use Rattle.session.specs.Session.{sessionThere, validAt}
 use Rattle.session.specs.declared.Session.{Session}
-use Rattle.envelope.specs.Blocks.{blocksIn, packetNonce}
-use Rattle.envelope.proofs.Unsealed.{sealed-number, sealed-id, sealed-whole, sealed-blocks}
-use Rattle.bridge.specs.Opener.{adminKey, sessionRules, uartEntryRules, uartText}
+use Rattle.envelope.specs.Blocks.{nonceNumber}
+use Rattle.envelope.proofs.Unsealed.{sealed-blocks}
+use Rattle.bridge.specs.Opener.{adminKey, uartEntryRules, uartText}
 use Rattle.bridge.specs.Opening.{refusedAnswer, textAnswer, sealedAnswer}
 use Rattle.bridge.proofs.Opening.{sealed-opened}
 use Rattle.bridge.specs.declared.Context.{Context}
@@ -25,7 +24,7 @@ use Rattle.bridge.specs.declared.Answer.{Answer}
 use Rattle.bridge.specs.declared.Opened.{Opened}
 use Rattle.whole_line.specs.Listed.{Item, sealed, SentItem, items, PermittedItem, Made, wrapped, lineOf, onLine, Occasion, Fit, Ready, rememberedAfter, AllDiffer, during, Opening, openings}
 use Rattle.whole_line.specs.Claim.{Read}
-use Rattle.whole_line.proofs.Items.{key-held, AtTurn, at-start, openedItem, one-turns}
+use Rattle.whole_line.proofs.Items.{AtTurn, asks, at-start, openedItem, one-turns}
 use Rattle.whole_line.proofs.OneWay.{no-line-two-ways, handed, skip}
 use Rattle.whole_line.proofs.Permits.{contextIn, permitted-item}
 use Rattle.whole_line.proofs.Example.{switch}
@@ -47,24 +46,12 @@ module _ (g : Context) (pn m noise : List ℕ) (ok : PermittedItem g (sealed pn 
   abbrev last : SentItem
   last = record { item = sealed pn m; noise = noise }
 
-  module _ (s : Session) (ns : List ℕ) (turn : AtTurn g s ns) (again : among (packetNonce pn) ns ≡ true) (n : ℕ) where
+  module _ (s : Session) (ns : List ℕ) (turn : AtTurn g s ns) (again : among (nonceNumber pn) ns ≡ true) (n : ℕ) where
     abbrev here : Context
     here = during g s (at n .time)
 
     stops : firstBroken (uartEntryRules here (length (at n .work)) p) ≡ 28
-    unfolding uartEntryRules sessionRules
-    stops =
-        rw (
-          sealed-whole (adminKey g .bytes) pn (g .session .nonce) m (ok .1 .three) (ok .0 .long),
-          le-ltb (length (at n .work)) (16 * blocksIn p) (fits n .1),
-          sealed-id (adminKey g .bytes) pn (g .session .nonce) m (ok .1 .three),
-          key-held (g .keys) (g .mode) (ok .1 .normal) (ok .1 .held),
-          turn .there (ok .1 .there),
-          turn .valid (at n .time) ∙ fits n .0,
-          sealed-number (adminKey g .bytes) pn (g .session .nonce) m (ok .1 .three),
-          turn .remembers,
-          again,
-        )
+    stops = asks g s (at n .time) ns pn m turn (ok .0) (ok .1) (fits n .0) (length (at n .work)) (fits n .1) ∙ rw again
 
     one-again : openedItem g s (at n) (sealed pn m) .answer ≡ refusedAnswer 28
     unfolding sealedAnswer
@@ -73,7 +60,7 @@ module _ (g : Context) (pn m noise : List ℕ) (ok : PermittedItem g (sealed pn 
         ∙ ap (λ (k : ℕ). verdict refusedAnswer k (textAnswer here (uartText here p))) stops
 
   refused-last : (ts : List SentItem) (n : ℕ) (s : Session) (ns : List ℕ) → AtTurn g s ns → Made g ts → Ready g at n (items ts) → AllDiffer ns (items ts)
-      → among (packetNonce pn) (rememberedBehind ns (items ts)) ≡ true → (a : Answer)
+      → among (nonceNumber pn) (rememberedBehind ns (items ts)) ≡ true → (a : Answer)
       → lastAnswer a (openings g at n s (line.framesOf (onLine g (ts ++ (last ∷ []))))) ≡ refusedAnswer 28
   unfolding openings line.framesOf
   refused-last [] n s ns turn made fit differ again a = one-again s ns turn again n
@@ -81,13 +68,18 @@ module _ (g : Context) (pn m noise : List ℕ) (ok : PermittedItem g (sealed pn 
       refused-last ts (suc n) (openedItem g s (at n) (t .item) .session) (rememberedAfter ns (t .item))
       (one-turns g s ns turn (at n) (t .item) (made .0) (fit .0) (differ .0)) (made .2) (fit .1) (differ .1) again _
 
+  -- the list with it
+  made-with : (ts : List SentItem) → Made g ts → line.NoStart noise → Made g (ts ++ (last ∷ []))
+  made-with [] made quiet = (ok, quiet, tt)
+  made-with (t ∷ ts) made quiet = (made .0, made .1, made-with ts (made .2) quiet)
+
   -- on a line, over any receiver
-  refused-on-line : (t : SentItem) (ts : List SentItem) → Made g (t ∷ ts) → Made g (t ∷ ts ++ (last ∷ [])) → Ready g at 0 (items (t ∷ ts))
-      → AllDiffer (remembered (g .session .memory)) (items (t ∷ ts)) → among (packetNonce pn) (rememberedBehind (remembered (g .session .memory)) (items (t ∷ ts))) ≡ true
+  refused-on-line : line.NoStart noise → (t : SentItem) (ts : List SentItem) → Made g (t ∷ ts) → Ready g at 0 (items (t ∷ ts))
+      → AllDiffer (remembered (g .session .memory)) (items (t ∷ ts)) → among (nonceNumber pn) (rememberedBehind (remembered (g .session .memory)) (items (t ∷ ts))) ≡ true
       → (r : Receiver) → length (r .store) ≡ 512 → (a : Answer)
       → lastAnswer a (openings g at 0 (g .session) (run (lineOf g (t ∷ ts ++ (last ∷ []))) r)) ≡ refusedAnswer 28
-  refused-on-line t ts made all fit differ again r store a =
-      ap (λ (es : List line.Emitted). lastAnswer a (openings g at 0 (g .session) es)) (handed g t (ts ++ (last ∷ [])) r store all)
+  refused-on-line quiet t ts made fit differ again r store a =
+      ap (λ (es : List line.Emitted). lastAnswer a (openings g at 0 (g .session) es)) (handed g t (ts ++ (last ∷ [])) r store (made-with (t ∷ ts) made quiet))
       ∙ ap (lastAnswer a) (skip g at 0 (g .session) (busy (r .progress)) (r .progress .count + 1) (line.framesOf (onLine g (t ∷ ts ++ (last ∷ [])))))
       ∙ refused-last (t ∷ ts) 0 (g .session) (remembered (g .session .memory)) (at-start g) made fit differ again a
 
@@ -125,17 +117,20 @@ ready : (ns : List ℕ) (k : ℕ) → Ready g at k (items (sentAll ns))
 ready [] k = tt
 ready (n ∷ ns) k = (fit n k, ready ns (suc k))
 
+-- the second to the eighth
+abbrev others : List ℕ
+others = 2 ∷ 3 ∷ 4 ∷ 5 ∷ 6 ∷ 7 ∷ 8 ∷ []
+
 -- the ninth is refused: the eight before it are remembered
-pub ninth : (a : Answer) → lastAnswer a (openings g at 0 (g .session) (run (lineOf g (sentAll (1 ∷ 2 ∷ 3 ∷ 4 ∷ 5 ∷ 6 ∷ 7 ∷ 8 ∷ 1 ∷ []))) freshReceiver)) ≡ refusedAnswer 28
-unfolding remembered inLimits
+pub ninth : (a : Answer) → lastAnswer a (openings g at 0 (g .session) (run (lineOf g (sentAll (1 ∷ others ++ (1 ∷ [])))) freshReceiver)) ≡ refusedAnswer 28
+unfolding remembered limited
 ninth =
-    refused-on-line g (pn 1) switch [] (permitted 1) at (fit 1) (sent 1) (sentAll (2 ∷ 3 ∷ 4 ∷ 5 ∷ 6 ∷ 7 ∷ 8 ∷ []))
-    (made (1 ∷ 2 ∷ 3 ∷ 4 ∷ 5 ∷ 6 ∷ 7 ∷ 8 ∷ [])) (made (1 ∷ 2 ∷ 3 ∷ 4 ∷ 5 ∷ 6 ∷ 7 ∷ 8 ∷ 1 ∷ [])) (ready (1 ∷ 2 ∷ 3 ∷ 4 ∷ 5 ∷ 6 ∷ 7 ∷ 8 ∷ []) 0)
+    refused-on-line g (pn 1) switch [] (permitted 1) at (fit 1) tt (sent 1) (sentAll others) (made (1 ∷ others)) (ready (1 ∷ others) 0)
     (refl, (refl, (refl, (refl, (refl, (refl, (refl, (refl, tt)))))))) refl freshReceiver refl
 
 -- the tenth is accepted, as all before it: the claim holds for the ten
-pub tenth : Read g (sentAll (1 ∷ 2 ∷ 3 ∷ 4 ∷ 5 ∷ 6 ∷ 7 ∷ 8 ∷ 9 ∷ 1 ∷ [])) freshReceiver at
-unfolding remembered inLimits after
+pub tenth : Read g (sentAll (1 ∷ others ++ (9 ∷ 1 ∷ []))) freshReceiver at
+unfolding remembered limited after
 tenth =
-    no-line-two-ways g .read (sent 1) (sentAll (2 ∷ 3 ∷ 4 ∷ 5 ∷ 6 ∷ 7 ∷ 8 ∷ 9 ∷ 1 ∷ [])) (made (1 ∷ 2 ∷ 3 ∷ 4 ∷ 5 ∷ 6 ∷ 7 ∷ 8 ∷ 9 ∷ 1 ∷ [])) [] freshReceiver refl at
-    (ready (1 ∷ 2 ∷ 3 ∷ 4 ∷ 5 ∷ 6 ∷ 7 ∷ 8 ∷ 9 ∷ 1 ∷ []) 0) (refl, (refl, (refl, (refl, (refl, (refl, (refl, (refl, (refl, (refl, tt))))))))))
+    no-line-two-ways g .read (sent 1) (sentAll (others ++ (9 ∷ 1 ∷ []))) (made (1 ∷ others ++ (9 ∷ 1 ∷ []))) [] freshReceiver refl at
+    (ready (1 ∷ others ++ (9 ∷ 1 ∷ [])) 0) (refl, (refl, (refl, (refl, (refl, (refl, (refl, (refl, (refl, (refl, tt))))))))))

@@ -14,7 +14,7 @@ use Rattle.line.specs.Line.{Emitted, refusal, frame, frameGives, valueGives, es
 use Rattle.line.specs.declared.Receiver.{Receiver}
 use Rattle.bridge.specs.declared.Context.{Context}
 use Rattle.whole_line.specs.Listed.{SentItem, plain, onLine, Occasion}
-use Rattle.whole_line.specs.Claim.{Read, ReadBy}
+use Rattle.whole_line.specs.Claim.{Read}
 use Rattle.whole_line.specs.Wrong.{lineBy, runBy, afterBy, ReadWith, next, writesNothing, oneImage, firstNext, firstOnly, firstAgain}
 use Rattle.whole_line.proofs.Example.{g, hello, reply}
 

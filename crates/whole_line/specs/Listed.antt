@@ -21,7 +21,7 @@ use Rattle.session.specs.Memory.{inFront}
 use Rattle.session.specs.Session.{sessionThere, validAt}
 use Rattle.session.specs.declared.Session.{Session}
 use Rattle.units.specs.declared.Seconds.{Seconds}
-use Rattle.envelope.specs.Blocks.{outside, Seals, blocksIn, packetNonce}
+use Rattle.envelope.specs.Blocks.{outside, Seals, blocksIn, nonceNumber}
 use Rattle.envelope.specs.Sealed.{sealedImage}
 use Rattle.bridge.specs.Content.{answerContent}
 use Rattle.bridge.specs.Opener.{adminKey, opened, workAfter}
@@ -130,13 +130,14 @@ Ready g at n (i ∷ is) = Fit g (at n) i × Ready g at (suc n) is
 -- what is remembered after an item (document 02 §6): an encrypted one's packet nonce is put in front, and eight are kept
 abbrev pub rememberedAfter : List ℕ → Item → List ℕ
 rememberedAfter ns (plain m) = ns
-rememberedAfter ns (sealed pn m) = inFront (packetNonce pn) ns
+rememberedAfter ns (sealed pn m) = inFront (nonceNumber pn) ns
 
--- each encrypted one's packet nonce differs from those remembered at its turn; ns are those remembered before the first
+-- an encrypted one's packet nonce is none of these
 abbrev pub Differs : List ℕ → Item → Type 0
 Differs ns (plain m) = Unit {0}
-Differs ns (sealed pn m) = among (packetNonce pn) ns ≡ false
+Differs ns (sealed pn m) = among (nonceNumber pn) ns ≡ false
 
+-- each, of those remembered at its turn; ns are those before the first
 abbrev pub AllDiffer : List ℕ → List Item → Type 0
 AllDiffer ns [] = Unit {0}
 AllDiffer ns (i ∷ is) = Differs ns i × AllDiffer (rememberedAfter ns i) is

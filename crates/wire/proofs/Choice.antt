@@ -18,6 +18,15 @@ pub and-holds : (a b : Bool) → (a && b) ≡ true → (a ≡ true) × (b ≡ tr
 and-holds true b e = (refl, e)
 and-holds false b e = true-false (sym e)
 
+-- one holds, or one fails
+pub or-right : (a b : Bool) → b ≡ true → (a || b) ≡ true
+or-right true b e = refl
+or-right false b e = e
+
+pub and-false : (a : Bool) → (a && false) ≡ false
+and-false true = refl
+and-false false = refl
+
 -- neither holds
 pub or-fails : (a b : Bool) → (a || b) ≡ false → (a ≡ false) × (b ≡ false)
 or-fails true b e = true-false e

@@ -1,18 +1,14 @@
 -- Which numbers a list of rules gives, and when it gives none. Assumes nothing.
 use mathlib.Core.Path.{_≡_, refl, sym, ap, _∙_}
-use mathlib.Core.Bool.{Bool, true, false, _||_}
+use mathlib.Core.Bool.{Bool, true, false, not, _&&_, _||_}
 use mathlib.Core.List.{List, [], _∷_, _++_}
 use Prim.Native.Nat.{ℕ, zero, suc}
 use native.Mathlib.Omega.{arith}
 use lib.Dec.{eqb}
-use borrow.Author.Tests.{eq-eqb}
+use borrow.Author.Tests.{eq-eqb, eqb-true, not-true}
 use Rattle.wire.specs.Rules.{Rule, _when_, orElse, firstBroken, verdict, judge, numbers, among, Exactly}
-use Rattle.wire.proofs.Choice.{true-false}
+use Rattle.wire.proofs.Choice.{true-false, and-holds, or-right}
 use Rattle.wire.proofs.Rules.{first-append}
-
-or-right : (a b : Bool) → b ≡ true → (a || b) ≡ true
-or-right true b e = refl
-or-right false b e = e
 
 -- a number that is given is one of theirs
 pub first-among : (rs : List Rule) (n : ℕ) → firstBroken rs ≡ suc n → among (suc n) (numbers rs) ≡ true
@@ -20,6 +16,31 @@ first-among [] n e = absurd (omega arith)
 first-among ((m when false) ∷ rs) n e = or-right (eqb (suc n) m) (among (suc n) (numbers rs)) (first-among rs n e)
 first-among ((zero when true) ∷ rs) n e = or-right (eqb (suc n) 0) (among (suc n) (numbers rs)) (first-among rs n e)
 first-among ((suc m when true) ∷ rs) n e = rw (eq-eqb (suc n) (suc m) (sym e))
+
+-- no number of a list is one of others
+abbrev pub apart : List ℕ → List ℕ → Bool
+apart [] ms = true
+apart (n ∷ ns) ms = not (among n ms) && apart ns ms
+
+in-both : (n : ℕ) (ns ms : List ℕ) → apart ns ms ≡ true → among n ns ≡ true → among n ms ≡ true → ⊥
+in-both n [] ms a h k = true-false (sym h)
+in-both n (m ∷ ns) ms a h k =
+    let x = and-holds (not (among m ms)) (apart ns ms) a in
+    go (eqb n m) refl h (not-true _ (x .0)) (λ q. in-both n ns ms (x .1) q k)
+  where
+    go : (b : Bool) → eqb n m ≡ b → (b || among n ns) ≡ true → among m ms ≡ false → (among n ns ≡ true → ⊥) → ⊥
+    go true e q z r = true-false (sym k ∙ ap (λ (i : ℕ). among i ms) (eqb-true n m e) ∙ z)
+    go false e q z r = r q
+
+-- where the number given is one of others, none of a list with numbers apart from them is broken
+pub passed-first : (xs ys : List Rule) (ms : List ℕ) → apart (numbers xs) ms ≡ true → among (firstBroken (xs ++ ys)) ms ≡ true → firstBroken xs ≡ 0
+passed-first xs ys ms a h = go (firstBroken xs) refl
+  where
+    go : (n : ℕ) → firstBroken xs ≡ n → n ≡ 0
+    go zero e = refl
+    go (suc n) e =
+        absurd (in-both (suc n) (numbers xs) ms a (first-among xs n e)
+        (ap (λ (i : ℕ). among i ms) (sym (first-append xs ys ∙ ap (λ (i : ℕ). orElse i (firstBroken ys)) e)) ∙ h))
 
 -- one that none of theirs is, is not given
 pub never : (rs : List Rule) (n : ℕ) → among (suc n) (numbers rs) ≡ false → firstBroken rs ≡ suc n → ⊥

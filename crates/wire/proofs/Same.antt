@@ -1,6 +1,6 @@
 -- Laws of bytes compared. Assumes nothing.
 use mathlib.Core.Path.{_≡_, refl, sym, ap, ap₂}
-use mathlib.Core.Bool.{Bool, true, false, _&&_}
+use mathlib.Core.Bool.{true, false, _&&_}
 use mathlib.Core.List.{List, [], _∷_}
 use Prim.Native.Nat.{ℕ, suc, _+_, _≤_, _<_}
 use native.Mathlib.Numerals.{add-one}
@@ -10,7 +10,7 @@ use lib.Seq.{drop-cons}
 use lib.Dec.{eqb}
 use borrow.Author.Tests.{eq-eqb, eqb-true}
 use Rattle.wire.specs.Same.{sameBytes}
-use Rattle.wire.proofs.Choice.{true-false, and-holds}
+use Rattle.wire.proofs.Choice.{true-false, and-holds, and-false}
 
 pub same-self : (s : List ℕ) → sameBytes s s ≡ true
 same-self [] = refl
@@ -30,10 +30,6 @@ same-length [] [] h = absurd (h refl)
 same-length [] (b ∷ t) h = refl
 same-length (a ∷ s) [] h = refl
 same-length (a ∷ s) (b ∷ t) h = rw (same-length s t (λ e. h (ap suc e))) (and-false (eqb a b))
-  where
-    and-false : (x : Bool) → x && false ≡ false
-    and-false true = refl
-    and-false false = refl
 
 -- from a place on: one byte, and the end
 pub same-step : (s t : List ℕ) (i : ℕ) → i < length s → length s ≡ length t

@@ -1,4 +1,4 @@
-// What several crates need: parts of a slice, little-endian numbers, the answer of a writer.
+// What several crates need: parts of a slice, bytes compared, little-endian numbers, the answer of a writer.
 pub mod layouts;
 
 ghost use mathlib.Core.Path.{_≡_};

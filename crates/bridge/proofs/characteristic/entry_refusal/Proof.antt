@@ -1,61 +1,23 @@
 -- `characteristic::entry_refusal` meets its contract. Assumes nothing.
-use mathlib.Core.Path.{ap, _∙_}
-use mathlib.Core.List.{List, [], _∷_, _++_}
-use Prim.Native.Nat.{ℕ}
-use lib.ListN.{getD}
-use Rattle.wire.specs.Rules.{Rule, firstBroken}
-use Rattle.envelope.specs.Blocks.{nonceRule}
 use Rattle.bridge.specs.Opener.{blockRules}
 use Rattle.bridge.specs.Characteristic.{connectionRules, packetEntryRules}
 use Rattle.bridge.proofs.Judging.{first-stop, first-pass}
-use Rattle.bridge.specs.declared.Link.{Link}
 use borrow.Author.Needs.{needs}
 use Rattle.bridge.proofs.characteristic.entry_refusal.Statement.{statement}
 use Rattle.bridge.proofs.characteristic.entry_refusal.Tie as tie
-
--- 28 alone
-abbrev replay : Link → List ℕ → List Rule
-replay g p = nonceRule (g .connection .memory) p ∷ []
 
 returns : tie.Need-returns
 unfolding packetEntryRules
 returns c =
     let a = c .before .before .before .args in
-    let p = a .packet .now in
-    first-stop (blockRules p (a .room)) (connectionRules (a .link) (getD p 3 0) ++ replay (a .link) p) (c .before .block-refusal .ensures) (c .if1 .taken)
+    first-stop (blockRules (a .packet .now) (a .room)) (connectionRules (a .link) (a .packet .now)) (c .before .block-refusal .ensures) (c .if1 .taken)
 
 returns-2 : tie.Need-returns-2
 unfolding packetEntryRules
 returns-2 c =
-    let b = c .before .before .before in
+    let b = c .before in
     let a = b .before .before .before .args in
-    let p = a .packet .now in
-    let rules = connectionRules (a .link) (getD p 3 0) in
-    first-pass (blockRules p (a .room)) (rules ++ replay (a .link) p) (b .before .block-refusal .ensures) (b .if1 .left)
-    (first-stop rules (replay (a .link) p)
-    (c .before .connection-refusal .ensures ∙ ap (λ (i : ℕ). firstBroken (connectionRules (a .link) i)) (c .before .before .byte-at .ensures .0)) (c .if2 .taken))
-
-returns-3 : tie.Need-returns-3
-unfolding packetEntryRules
-returns-3 c =
-    let d = c .before .before .before in
-    let b = d .before .before .before in
-    let a = b .before .before .before .args in
-    let p = a .packet .now in
-    let rules = connectionRules (a .link) (getD p 3 0) in
-    first-pass (blockRules p (a .room)) (rules ++ replay (a .link) p) (b .before .block-refusal .ensures) (b .if1 .left)
-    (first-pass rules (replay (a .link) p)
-    (d .before .connection-refusal .ensures ∙ ap (λ (i : ℕ). firstBroken (connectionRules (a .link) i)) (d .before .before .byte-at .ensures .0)) (d .if2 .left)
-    (c .judge-nonce .ensures))
+    first-pass (blockRules (a .packet .now) (a .room)) (connectionRules (a .link) (a .packet .now)) (b .before .block-refusal .ensures) (b .if1 .left) (c .connection-refusal .ensures)
 
 pub entry-refusal-spec : {M : Type 1} → statement M
-entry-refusal-spec =
-    tie.close
-    (tie.spec
-    (λ c κs. search needs)
-    returns
-    (λ c κs. search needs)
-    (λ c κs. search needs)
-    returns-2
-    (λ c κs. search needs)
-    returns-3)
+entry-refusal-spec = tie.close (tie.spec (λ c κs. search needs) returns (λ c κs. search needs) returns-2)

@@ -4,7 +4,7 @@ use Prim.Native.Nat.{ℕ, _-_, _*_}
 use native.Mathlib.Omega.{arith}
 use lib.ListN.{length, getD}
 use Rattle.wire.specs.Rules.{firstBroken}
-use Rattle.envelope.specs.Blocks.{blocksIn, packetNonce}
+use Rattle.envelope.specs.Blocks.{blocksIn, nonceNumber}
 use Rattle.bridge.specs.Characteristic.{packetEntryRules, packetText}
 use Rattle.bridge.specs.Opening.{commandTextOpened}
 use Rattle.bridge.proofs.Judging.{blocks-part}
@@ -39,8 +39,8 @@ returns-2 c =
     let d = f .decipher .ensures in
     let x = answered-after k p w e
     (r .read-text .ensures
-    ∙ ap₂ (λ (i j : ℕ). commandTextOpened k i j (r .before .before .before .part-of .result .now)) (r .before .before .byte-at .ensures .0) (r .before .packet-nonce .ensures)
-    ∙ ap (commandTextOpened k (getD p 3 0) (packetNonce p)) (r .before .before .before .part-of .ensures ∙ blocks-part (blocksIn p) (packetText k p) w (long k p w e) d n))
+    ∙ ap₂ (λ (i j : ℕ). commandTextOpened k i j (r .before .before .before .part-of .result .now)) (r .before .before .byte-at .ensures .0) (r .before .nonce-number .ensures)
+    ∙ ap (commandTextOpened k (getD p 3 0) (nonceNumber p)) (r .before .before .before .part-of .ensures ∙ blocks-part (blocksIn p) (packetText k p) w (long k p w e) d n))
     d n (c .before .before .clear-refused .ensures) in
     opens-packet k p w (x .0) (x .1)
 

@@ -31,7 +31,7 @@ returns c =
     ∙ sym (ap₂ openedCommandAs
     (judge-append refusedCommand (characteristicRules v t) rest (acceptedCommand t)
     ∙ judge-stop refusedCommand (characteristicRules v t) (judge refusedCommand rest (acceptedCommand t)) _ late (c .before .if1 .taken))
-    (judge-stop (λ n. a .link .connection) (characteristicRules v t) (connectionRemembering (a .link .connection) (a .packet-nonce)) _ late (c .before .if1 .taken)))
+    (judge-stop (λ n. a .link .connection) (characteristicRules v t) (connectionRemembering (a .link .connection) (a .number)) _ late (c .before .if1 .taken)))
 
 answer-by-requires : tie.Need-answer-by-requires
 answer-by-requires c κs =
@@ -58,7 +58,7 @@ returns-2 c =
     ∙ answer-read v t (d .before .before .before .end-of .result) (a .link .mode) x n h
     ∙ sym (judge-append refusedCommand (characteristicRules v t) rest (acceptedCommand t)
     ∙ judge-pass refusedCommand (characteristicRules v t) (judge refusedCommand rest (acceptedCommand t)) h))
-    (c .remember .ensures ∙ sym (judge-pass (λ n. a .link .connection) (characteristicRules v t) (connectionRemembering (a .link .connection) (a .packet-nonce)) h))
+    (c .remember .ensures ∙ sym (judge-pass (λ n. a .link .connection) (characteristicRules v t) (connectionRemembering (a .link .connection) (a .number)) h))
 
 pub read-text-spec : {M : Type 1} → statement M
 read-text-spec =

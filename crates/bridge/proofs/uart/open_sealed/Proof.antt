@@ -38,7 +38,7 @@ returns-2 c =
     let d = f .decipher .ensures in
     answered-after g p w e
     (r .read-text .ensures
-    ∙ ap₂ (textOpened g) (r .before .packet-nonce .ensures) (r .before .before .part-of .ensures ∙ blocks-part (blocksIn p) (uartText g p) w (long g p w e) d k))
+    ∙ ap₂ (textOpened g) (r .before .nonce-number .ensures) (r .before .before .part-of .ensures ∙ blocks-part (blocksIn p) (uartText g p) w (long g p w e) d k))
     d k (c .before .before .clear-refused .ensures)
 
 pub open-sealed-spec : {M : Type 1} → statement M

@@ -31,7 +31,7 @@ returns c =
     ∙ sym (ap₂ openedAs
     (judge-append refusedAnswer (lateRules t) rest (acceptedMessage true 6 (messageIn t))
     ∙ judge-stop refusedAnswer (lateRules t) (judge refusedAnswer rest (acceptedMessage true 6 (messageIn t))) _ late (c .before .if1 .taken))
-    (judge-stop (λ n. a .context .session) (lateRules t) (sessionRemembering (a .context .session) (a .packet-nonce)) _ late (c .before .if1 .taken)))
+    (judge-stop (λ n. a .context .session) (lateRules t) (sessionRemembering (a .context .session) (a .number)) _ late (c .before .if1 .taken)))
 
 end-of-requires : tie.Need-end-of-requires
 end-of-requires c κs =
@@ -56,7 +56,7 @@ returns-2 c =
     ∙ answer-read true 6 (d .before .before .end-of .result) m Encrypted (a .context) n
     ∙ sym (judge-append refusedAnswer (lateRules t) rest (acceptedMessage true 6 m)
     ∙ judge-pass refusedAnswer (lateRules t) (judge refusedAnswer rest (acceptedMessage true 6 m)) late))
-    (c .remember .ensures ∙ sym (judge-pass (λ n. a .context .session) (lateRules t) (sessionRemembering (a .context .session) (a .packet-nonce)) late))
+    (c .remember .ensures ∙ sym (judge-pass (λ n. a .context .session) (lateRules t) (sessionRemembering (a .context .session) (a .number)) late))
 
 pub read-text-spec : {M : Type 1} → statement M
 read-text-spec =

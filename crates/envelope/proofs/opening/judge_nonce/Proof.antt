@@ -16,12 +16,12 @@ said m e q h = ap (λ (x : ℕ). among x (remembered m)) (sym q) ∙ sym e ∙ h
 returns : tie.Need-returns
 returns c =
     let d = c .before .before in
-    simp (said (d .before .before .args .memory) (c .before .holds .ensures) (d .packet-nonce .ensures) (c .if1 .taken))
+    simp (said (d .before .before .args .memory) (c .before .holds .ensures) (d .nonce-number .ensures) (c .if1 .taken))
 
 returns-2 : tie.Need-returns-2
 returns-2 c =
     let d = c .before .before in
-    simp (said (d .before .before .args .memory) (c .before .holds .ensures) (d .packet-nonce .ensures) (c .if1 .left))
+    simp (said (d .before .before .args .memory) (c .before .holds .ensures) (d .nonce-number .ensures) (c .if1 .left))
 
 pub judge-nonce-spec : {M : Type 1} → statement M
 judge-nonce-spec = tie.close (tie.spec (λ c κs. search needs) (λ c κs. search needs) returns returns-2)

@@ -7,7 +7,7 @@ use Rattle.session.proofs.Connection.remember.Tie as tie
 
 returns : tie.Need-returns
 unfolding connectionRemembering
-returns c = simp (sym (c .before .before .before .before .before .is-there .ensures) ∙ c .before .before .before .before .if1 .taken, c .remember .ensures)
+returns c = simp (sym (c .before .before .before .is-there .ensures) ∙ c .before .before .if1 .taken, c .remember .ensures)
 
 returns-2 : tie.Need-returns-2
 unfolding connectionRemembering

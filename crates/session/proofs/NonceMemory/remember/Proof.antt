@@ -13,8 +13,8 @@ use Rattle.session.proofs.NonceMemory.remember.Tie as tie
 returns : tie.Need-returns
 unfolding remembering
 returns c =
-    let m = c .before .before .in-limits in
-    let n = c .before .before .before .args .packet-nonce in
+    let m = c .before .before .limited in
+    let n = c .before .before .before .args .number in
     let long : length (m .result .nonces) ≡ 8 = search needs in
     ap₂ {C = NonceMemory} (λ (k : ℕ) (ns : List ℕ). record { count = k; nonces = ns }) (c .one-more .ensures) (eight-places n (m .result .nonces) long)
     ∙ ap {B = NonceMemory} (λ (x : NonceMemory). record { count = min 8 (x .count + 1); nonces = inFront n (x .nonces) }) (m .ensures)
