@@ -59,7 +59,7 @@ packetTextRules k level text =
     characteristicRules (k .connection .validation) text
     ++ commandRules (packetIn text) (k .mode) (accessFor (levelOf level))
 
--- all of a packet up to 13: what breaks none of them is remembered
+-- the rules of a packet up to 13: where none of them is broken, its packet nonce is remembered
 unfoldable pub packetPassRules : Link → ℕ → List ℕ → List Rule
 packetPassRules k room p = packetEntryRules k room p ++ characteristicRules (k .connection .validation) (packetText k p)
 

@@ -72,7 +72,7 @@ uartText g p = deciphered (adminKey g .bytes) (g .session .nonce) p
 unfoldable pub uartTextRules : Context → List ℕ → List Rule
 uartTextRules g text = lateRules text ++ messageRules Encrypted (g .required) (g .mode) (messageIn text)
 
--- all of an encrypted message up to 13: what breaks none of them is remembered
+-- the rules of an encrypted message up to 13, which a frame does not have: where none of them is broken, its packet nonce is remembered
 unfoldable pub uartPassRules : Context → ℕ → ℕ → ℕ → List ℕ → List Rule
 uartPassRules g room major wrapper p = headRules major wrapper ++ (uartEntryRules g room p ++ lateRules (uartText g p))
 

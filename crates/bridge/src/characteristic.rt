@@ -86,7 +86,7 @@ fn end_of(packet: &[u8]) -> usize
     4 + packet.len()
 }
 
-// A refusal leaves the connection session.
+// A refusal that leaves the connection session as it was.
 fn refused(number: u8, link: Link) -> OpenedCommand
     ensures { λ r. ⌜ r ≡ record { answer = opening.refusedCommand number; connection = link .connection } ⌝ }
 {

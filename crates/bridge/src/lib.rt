@@ -56,6 +56,7 @@ pub enum Answer {
     Refused(Refusal),
 }
 
+// The session after the frame goes into the next opening, also where the answer is a refusal.
 pub struct Opened {
     pub answer: Answer,
     pub session: Session,
@@ -67,6 +68,7 @@ pub enum CommandAnswer {
     Refused(Refusal),
 }
 
+// The connection session after the packet goes into the next opening, also where the answer is a refusal.
 pub struct OpenedCommand {
     pub answer: CommandAnswer,
     pub connection: Connection,

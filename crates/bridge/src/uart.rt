@@ -83,7 +83,7 @@ fn answer_by(in_work: bool, start: usize, end: usize, read: MessageRead) -> Answ
     }
 }
 
-// A refusal leaves the session.
+// A refusal that leaves the session as it was.
 fn refused(number: u8, context: Context) -> Opened
     ensures { λ r. ⌜ r ≡ record { answer = opening.refusedAnswer number; session = context .session } ⌝ }
 {

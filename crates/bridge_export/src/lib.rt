@@ -110,7 +110,7 @@ fn context(key: [u8; 16], nonce: [u8; 5], minutes: u64, since: u64, time: u64) -
     }
 }
 
-// Opens the first bytes of a payload as an encrypted message. What the session remembers after it is not handed out: each call has a fresh one.
+// Opens the first bytes of a payload as an encrypted message. The session after it is not handed out: each call begins with one that remembers nothing.
 #[no_mangle]
 pub extern "C" fn cloudgraze_open(
     key: &[u8; 16],

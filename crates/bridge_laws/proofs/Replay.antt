@@ -1,4 +1,4 @@
--- A sealed message that was opened past 13 is refused when it comes again. Assumes nothing.
+-- A sealed message that passed all of 10 to 13 is refused when it comes again. Assumes nothing.
 use mathlib.Core.Path.{_≡_, refl, sym, ap, ap₂, _∙_, subst}
 use mathlib.Core.Bool.{Bool, true, false, not, _&&_, _||_}
 use mathlib.Core.List.{List, [], _∷_, _++_}

@@ -38,7 +38,7 @@ module _ {S C : Type 0} (step : S → C → S) (passing : S → C → Bool) (non
     turn true j r h = (omega arith, omega arith)
     turn false j r h = (omega arith, omega arith)
 
-    -- what holds of the first j + 1 places holds behind them of as many more as messages passed
+    -- among the first j + 1 places before some calls, it is after them among as many more as messages passed
     pub still : (cs : List C) (s : S) (j : ℕ) → Holds s j → NonceStays step nonce s cs → count s cs + j < 8 → {E : Type 0} → ((t : S) (i : ℕ) → Holds t i → t ≡ after step s cs → E) → E
     still [] s j h stays k f = f s j h refl
     still (c ∷ cs) s j h stays k f =

@@ -1,4 +1,4 @@
--- Document 02 §6: a sealed message that was opened past 13, opened again, is never accepted. It gets 28, or a refusal that stands before it; exactly 28
+-- Document 02 §6: a sealed message that passed all of 10 to 13, opened again, is never accepted. It gets 28, or a refusal that stands before it; exactly 28
 -- where length, room, key and time permit. Whatever its blocks hold, and whatever came between, as long as fewer than eight other encrypted messages
 -- passed and the session nonce stayed. The statement, `ReplayRefused`; proofs/Replay.antt proves it.
 use Prim.Native.Nat.{ℕ, suc, _<_}

@@ -5,9 +5,9 @@
 // 0 label, with its colon
 // 1 route, mode, setting: u a frame or c a characteristic packet; n normal or s setup mode; for a frame r where encryption is required or - where not
 // 2 keys held as admin, member, basic and setup key, AMBS, with - for one that is absent
-// 3 for a frame the session: nonce, minutes, set time, 1 or 0 for one that is there or not; for a packet the connection: nonce, validation key, 1 or 0;
-//   behind either, unless its memory is empty, how many packet nonces it remembers and the places of eight, newest first, each as it stands in a packet
-//   (010203), but for zero places at the end
+// 3 for a frame the session: nonce, minutes, set time, 1 or 0 for held or not; for a packet the connection: nonce, validation key, 1 or 0; behind either,
+//   unless its memory is empty, the memory's count and its eight places, newest first, each as it stands in a packet (010203), but for zero places at the
+//   end
 // 4 for a frame the time now
 // 5 for a frame major, minor and wrapper type, a byte each
 // 6 length of the work buffer, which is full of EE

@@ -1,4 +1,4 @@
--- A session that remembers one more packet nonce is there and valid as before, and remembers the others too. Assumes nothing.
+-- A session that remembers one more packet nonce is there and valid as before, and remembers it in front of the others, eight in all. Assumes nothing.
 use mathlib.Core.Path.{_≡_, refl, ap, ap₂, sym, _∙_}
 use mathlib.Core.Bool.{Bool, true, false, _&&_}
 use mathlib.Core.List.{List, [], _∷_}

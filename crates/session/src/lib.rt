@@ -11,7 +11,7 @@ ghost use Rattle.session.specs.Session.{memoryAfter, noSession, sessionT
 ghost use Rattle.session.specs.Session.{noConnection, connectionThere, withData, connectionRemembering};
 ghost use Rattle.session.specs.Keys.{noKey, keyFor, keyForNumber};
 
-// The packet nonces of the last encrypted messages, each a number of three bytes.
+// The packet nonces of the last encrypted messages that passed all of 10 to 13, each a number of three bytes.
 pub struct NonceMemory {
     // How many are remembered, 0 to 8.
     pub count: usize,
@@ -19,7 +19,7 @@ pub struct NonceMemory {
     pub nonces: [u32; 8],
 }
 
-// The user's session: held is false where there is none.
+// The user's session. There is none where held is false, or where the memory's count is above 8 (`is_there`).
 pub struct Session {
     pub held: bool,
     pub nonce: [u8; 5],

@@ -1,8 +1,7 @@
 // Reads and writes session data, a case for each line of standard input, whose fields stand between bars: `read`, a name, the mode, the keys held (AMBS with
 // - for one that is absent), `held` or `none`, nonce and validation key of the connection that was there, the block; or `write`, a name, mode, keys, how many
-// bytes EE are lent as room, nonce and validation key. Behind a connection's validation key, unless its memory is empty, stand how many packet nonces it
-// remembers and the places of eight, but for zero places at the end. Prints the answer and the connection after it, or all of the room and what was written
-// read back.
+// bytes EE are lent as room, nonce and validation key. Behind a connection's validation key, unless its memory is empty, stand the memory's count and its
+// eight places, but for zero places at the end. Prints the answer and the connection after it, or all of the room and what was written read back.
 // The stored output comes from another implementation of AES: bench/session_data/outcomes.py.
 use access::Mode;
 use libc::STDIN_FILENO;

@@ -1,5 +1,5 @@
-// The packet nonces that a session remembers, as a text: their count and each place, as a nonce's six digits in a packet, all behind a space. Zero places at
-// the end are left out, and an empty memory is no text.
+// The packet nonces that a session remembers, as a text: the count in decimal, and each place in base 16 as its three bytes stand in a packet, each behind a
+// space. Zero places at the end are left out, and an empty memory is no text.
 use session::NonceMemory;
 use text::reading;
 ghost use mathlib.Core.Path.{_≡_};
