@@ -52,7 +52,7 @@ pub fn judge_room(payload: &[u8], room: usize) -> u8
 pub fn nonce_number(payload: &[u8]) -> u32
     ensures { λ r. ⌜ r ≡ nonceNumber (now (payload .entry)) ⌝ }
 {
-    (wire::read_u16(payload, 0) as u32) + 65536 * (wire::byte_at(payload, 2) as u32)
+    wire::read_u24(payload, 0)
 }
 
 // 28, by the packet nonces that are remembered.

@@ -19,6 +19,10 @@ and-holds true b e = (refl, e)
 and-holds false b e = true-false (sym e)
 
 -- one holds, or one fails
+pub or-true : (a : Bool) → (a || true) ≡ true
+or-true true = refl
+or-true false = refl
+
 pub or-right : (a b : Bool) → b ≡ true → (a || b) ≡ true
 or-right true b e = refl
 or-right false b e = e

@@ -1,7 +1,7 @@
 -- Reading undoes writing, once over a list of fields. Assumes nothing.
 use mathlib.Core.Path.{_≡_, refl, ap, _∙_}
-use Prim.Native.Nat.{ℕ, suc, _+_, _-_, _^_, _≤_, _<_}
-use mathlib.Core.Bool.{Bool, true, false, not, _||_}
+use Prim.Native.Nat.{ℕ, zero, suc, _+_, _-_, _^_, _≤_, _<_}
+use mathlib.Core.Bool.{true, false, not, _||_}
 use mathlib.Core.List.{List, [], _∷_, _++_, append-assoc}
 use native.Mathlib.Omega.{arith}
 use lib.ListN.{length, getD, take, drop, length-append, length-drop}
@@ -12,19 +12,23 @@ use Rattle.wire.specs.Numbers.{num, le}
 use Rattle.wire.specs.Fields.{Field, Layout, width, widths, wrongSize, secondAbove, valuesAt, wrongFields, encode, unfit, past, anyPast, sameLengths, partsOf, bodyOf, unreadable}
 use Rattle.wire.specs.Parts.{part, partOf}
 use Rattle.wire.specs.declared.Part.{Part}
-use Rattle.wire.proofs.Choice.{or-fails, true-false}
+use Rattle.wire.proofs.Choice.{or-true, or-right, or-fails, true-false}
 use Rattle.wire.proofs.Lists.{part-in}
 use Rattle.wire.proofs.Numbers.{num-le, length-le}
-
-or-true : (a : Bool) → a || true ≡ true
-or-true true = refl
-or-true false = refl
 
 -- the numbers fit: each its own field
 fits : (f : Field) (fs : List Field) (v : ℕ) (vs : List ℕ) → unfit (f ∷ fs) (v ∷ vs) ≡ false → (v < 256 ^ width f) × (unfit fs vs ≡ false)
 fits f fs v vs e =
     let o = or-fails (not (ltb v (256 ^ width f))) (unfit fs vs) e in
     (ltb-true _ _ (not-false _ (o .0)), o .1)
+
+-- a number that does not fit, behind others
+pub unfit-drop : (k : ℕ) (fs : List Field) (vs : List ℕ) → unfit (drop k fs) (drop k vs) ≡ true → unfit fs vs ≡ true
+unfit-drop zero fs vs e = e
+unfit-drop (suc k) [] [] e = e
+unfit-drop (suc k) [] (v ∷ vs) e = refl
+unfit-drop (suc k) (f ∷ fs) [] e = refl
+unfit-drop (suc k) (f ∷ fs) (v ∷ vs) e = or-right (not (ltb v (256 ^ width f))) (unfit fs vs) (unfit-drop k fs vs e)
 
 pub encode-length : (fs : List Field) (vs : List ℕ) → unfit fs vs ≡ false → length (encode fs vs) ≡ widths fs
 encode-length [] [] e = refl
@@ -83,6 +87,9 @@ readable l vs ps cut s e =
 module _ (l : Layout) (vs : List ℕ) (ps cut : List Part) (s : List ℕ) where
   pub unreadable-past : anyPast s ps ≡ true → unreadable l vs ps cut s ≡ true
   unreadable-past e = rw e
+
+  pub unreadable-unfit : unfit (l .fields) vs ≡ true → unreadable l vs ps cut s ≡ true
+  unreadable-unfit e = rw (e, or-true (anyPast s ps))
 
   pub unreadable-size : wrongSize (l .size) (bodyOf l vs ps s) ≡ true → unreadable l vs ps cut s ≡ true
   unreadable-size e = rw (e, or-true (anyPast s ps || unfit (l .fields) vs))

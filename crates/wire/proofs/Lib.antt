@@ -13,3 +13,4 @@ pub mod Writers
 pub mod Held
 pub mod Given
 pub mod Same
+pub mod Signed

@@ -2,7 +2,7 @@
 use mathlib.Core.Path.{_≡_, _∙_, refl, sym, ap, ap₂}
 use mathlib.Core.List.{List, [], _∷_, _++_}
 use Prim.Native.Nat.{ℕ, zero, suc, _+_, _*_, _^_, _/_, _%_, _≤_, _<_}
-use native.Mathlib.Nat.{pow-suc}
+use native.Mathlib.Nat.{add-zero, zero-add, suc-add, mul-add, mul-assoc, mul-left-comm, pow-suc}
 use native.Mathlib.Numerals.{add-one}
 use native.Mathlib.Omega.{arith}
 use lib.ListN.{length, getD, take, drop, length-append, List·getD-eq-default}
@@ -41,14 +41,36 @@ le-num s h (suc (suc w)) at k =
     high : (b m : ℕ) → b < 256 → (b + 256 * m) / 256 ≡ m
     high b m h = omega arith
 
+-- the low bytes of a number that they hold
+pub le-low : (w v : ℕ) → v < 256 ^ w → take w (le (suc w) v) ≡ le w v
+le-low zero v h = refl
+le-low (suc zero) v h = let e : v % 256 ≡ v = omega arith in rw e
+le-low (suc (suc w)) v h = ap (λ (t : List ℕ). v % 256 ∷ t) (le-low (suc w) (v / 256) (omega (arith, pow-suc 256 (suc w))))
+
 -- past the end stands 0
 pub num-past : (w at : ℕ) (s : List ℕ) → length s ≤ at → num w at s ≡ 0
 num-past zero at s h = refl
 num-past (suc zero) at s h = List·getD-eq-default s 0 h
 num-past (suc (suc w)) at s h = omega (arith, List·getD-eq-default s 0 h, num-past (suc w) (at + 1) s (omega arith))
 
--- four bytes are two and two
-pub num-halves : (at : ℕ) (s : List ℕ) → num 4 at s ≡ num 2 at s + 65536 * num 2 (at + 2) s
-num-halves at s =
-    let e : at + 1 + 1 ≡ at + 2 = omega arith in
-    rw e (omega arith)
+-- the low byte, and the rest
+num-suc : (w at : ℕ) (s : List ℕ) → num (suc w) at s ≡ getD s at 0 + 256 * num w (at + 1) s
+num-suc zero at s = omega arith
+num-suc (suc w) at s = refl
+
+-- a number is its low v bytes and the w behind them
+pub num-split : (v w at : ℕ) (s : List ℕ) → num (v + w) at s ≡ num v at s + 256 ^ v * num w (at + v) s
+num-split zero w at s = rw (zero-add w, add-zero at) (omega arith)
+num-split (suc v) w at s =
+    let e : at + suc v ≡ at + 1 + v = omega arith in
+    rw (
+      suc-add v w,
+      num-suc (v + w) at s,
+      num-suc v at s,
+      num-split v w (at + 1) s,
+      e,
+      pow-suc 256 v,
+      mul-assoc (256 ^ v) 256 (num w (at + 1 + v) s),
+      mul-left-comm (256 ^ v) 256 (num w (at + 1 + v) s),
+      mul-add 256 (num v (at + 1) s) (256 ^ v * num w (at + 1 + v) s),
+    ) (omega arith)

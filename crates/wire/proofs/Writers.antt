@@ -44,6 +44,11 @@ wrote-image {bad} {image} {room} n w e =
     let d = wrote-held n w e in
     (first-none 16 bad (noRoom 0 image room ∷ []) (d .0) .0, d .1)
 
+-- what holds of the image, where it is not bad, holds of what stands at the front of the room when the writer answers that it wrote
+pub wrote-back : (Back : List ℕ → Type 0) {bad : Bool} {image room : List ℕ} {answer : Written} {after : List ℕ} → (bad ≡ false → Back image)
+    → (n : ℕ) → Writes bad image room answer after → answer ≡ Wrote n → Back (take n after)
+wrote-back Back back n w e = let d = wrote-image n w e in subst Back (sym (d .1)) (back (d .0))
+
 -- a writer whose rules all hold has written, at the front
 pub wrote : (rules : List Rule) (bytes room after : List ℕ) (answer : Written) → firstBroken rules ≡ 0 → Stores rules 0 bytes room answer after
     → (answer ≡ Wrote (length bytes)) × (take (length bytes) after ≡ bytes)

@@ -7,3 +7,4 @@ pub mod Writing
 pub mod Lookup
 pub mod Fields
 pub mod Same
+pub mod Signed

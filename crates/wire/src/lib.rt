@@ -1,14 +1,15 @@
-// What several crates need: parts of a slice, bytes compared, little-endian numbers, the answer of a writer.
+// What several crates need: parts of a slice, bytes compared, little-endian numbers, signed bytes, the answer of a writer.
 pub mod layouts;
 
 ghost use mathlib.Core.Path.{_≡_};
 ghost use mathlib.Core.List.{_++_, _∷_, []};
 ghost use Prim.Native.Nat.{_+_, _≤_, _<_};
-ghost use lib.ListN.{length, getD};
+ghost use lib.ListN.{length, getD, take};
 ghost use lib.Seq.{sets};
 ghost use Rattle.wire.specs.Numbers.{num, le};
 ghost use Rattle.wire.specs.Parts.{partOf};
 ghost use Rattle.wire.specs.Same.{sameBytes};
+ghost use Rattle.wire.specs.Signed.{signed, unsigned};
 ghost use Rattle.wire.specs.Writing.{Stores, noRoom};
 
 // A part of a lent slice.
@@ -82,6 +83,16 @@ pub fn read_u16(s: &[u8], at: usize) -> u16
     (byte_at(s, at) as u16) + 256 * (byte_at(s, at + 1) as u16)
 }
 
+// The number of three bytes at a place, low byte first; a byte past the end counts as 0.
+pub fn read_u24(s: &[u8], at: usize) -> u32
+    ensures { λ r. ⌜ r ≡ num 3 at (now (s .entry)) ⌝ }
+{
+    if s.len() <= at {
+        return 0;
+    }
+    (byte_at(s, at) as u32) + 256 * (read_u16(s, at + 1) as u32)
+}
+
 // The number of four bytes at a place, low byte first; a byte past the end counts as 0.
 pub fn read_u32(s: &[u8], at: usize) -> u32
     ensures { λ r. ⌜ r ≡ num 4 at (now (s .entry)) ⌝ }
@@ -95,11 +106,52 @@ pub fn read_u32(s: &[u8], at: usize) -> u32
     (read_u16(s, at) as u32) + 65536 * (read_u16(s, at + 2) as u32)
 }
 
+// The number of eight bytes at a place, low byte first; a byte past the end counts as 0.
+pub fn read_u64(s: &[u8], at: usize) -> u64
+    ensures { λ r. ⌜ r ≡ num 8 at (now (s .entry)) ⌝ }
+{
+    if s.len() <= at {
+        return 0;
+    }
+    if s.len() - at < 4 {
+        return read_u32(s, at) as u64;
+    }
+    (read_u32(s, at) as u64) + 4294967296 * (read_u32(s, at + 4) as u64)
+}
+
+// The number that a byte stands for in a signed field.
+pub fn signed_of(b: u8) -> i8
+    ensures { λ r. ⌜ r ≡ signed b ⌝ }
+{
+    if b < 128 {
+        return b as i8;
+    }
+    -1 - ((255 - b) as i8)
+}
+
+// The byte that stands for a signed number.
+pub fn unsigned_of(v: i8) -> u8
+    ensures { λ r. ⌜ r ≡ unsigned v ⌝ }
+{
+    if v < 0 {
+        return 255 - ((-1 - v) as u8);
+    }
+    v as u8
+}
+
 // The two bytes of a number, low byte first.
 pub fn u16_bytes(v: u16) -> [u8; 2]
     ensures { λ r. ⌜ r ≡ le 2 v ⌝ }
 {
     [(v % 256) as u8, (v / 256) as u8]
+}
+
+// The low three of a number's bytes, low byte first.
+pub fn u24_bytes(v: u32) -> [u8; 3]
+    ensures { λ r. ⌜ r ≡ take 3 (le 4 v) ⌝ }
+{
+    let b = u32_bytes(v);
+    [b[0], b[1], b[2]]
 }
 
 // The four bytes of a number, low byte first.
@@ -111,6 +163,22 @@ pub fn u32_bytes(v: u32) -> [u8; 4]
         (v / 256 % 256) as u8,
         (v / 256 / 256 % 256) as u8,
         (v / 256 / 256 / 256) as u8,
+    ]
+}
+
+// The eight bytes of a number, low byte first.
+pub fn u64_bytes(v: u64) -> [u8; 8]
+    ensures { λ r. ⌜ r ≡ le 8 v ⌝ }
+{
+    [
+        (v % 256) as u8,
+        (v / 256 % 256) as u8,
+        (v / 256 / 256 % 256) as u8,
+        (v / 256 / 256 / 256 % 256) as u8,
+        (v / 256 / 256 / 256 / 256 % 256) as u8,
+        (v / 256 / 256 / 256 / 256 / 256 % 256) as u8,
+        (v / 256 / 256 / 256 / 256 / 256 / 256 % 256) as u8,
+        (v / 256 / 256 / 256 / 256 / 256 / 256 / 256) as u8,
     ]
 }
 

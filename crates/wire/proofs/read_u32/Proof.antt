@@ -1,7 +1,7 @@
 -- `read_u32` meets its contract. Assumes nothing.
 use mathlib.Core.Path.{sym}
 use Prim.Native.Nat.{_+_}
-use Rattle.wire.proofs.Numbers.{num-past, num-halves}
+use Rattle.wire.proofs.Numbers.{num-past, num-split}
 use native.Mathlib.Omega.{arith}
 use borrow.Author.Needs.{needs}
 use Rattle.wire.proofs.read_u32.Statement.{statement}
@@ -18,7 +18,7 @@ returns-2 c =
 returns-3 : tie.Need-returns-3
 returns-3 c =
     let a = c .before .before .before .before .before .args in
-    omega (arith, num-halves (a .at) (a .s .now), c .before .read-u16 .ensures .0, c .read-u162 .ensures .0)
+    omega (arith, num-split 2 2 (a .at) (a .s .now), c .before .read-u16 .ensures .0, c .read-u162 .ensures .0)
 
 pub read-u32-spec : {M : Type 1} → statement M
 read-u32-spec =
