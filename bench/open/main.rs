@@ -49,9 +49,12 @@ fn messages(size: usize) -> Vec<Vec<u8>> {
     match size {
         2 => list.push(vec![4, 0]),
         4 => list.push(vec![2, 0, 44, 1]),
-        8 => list.push(control(20, &[100])),
+        7 => list.extend([control(72, &[]), control(80, &[])]),
+        8 => list.extend([control(20, &[100]), control(72, &[0]), control(80, &[0])]),
         13 => list.push([&[3, 0, 1, 15], &fill(9)[..]].concat()),
-        14 => list.push(control(6, &[1, 1, 2, 3, 4, 5, 6])),
+        14 => list.extend([control(6, &[1, 1, 2, 3, 4, 5, 6]), control(71, &[2, 1, 3, 4, 5, 6, 60]), control(71, &[2, 1, 3, 4, 5, 6, 61])]),
+        17 => list.push(control(70, &fill(10))),
+        18 => list.push(control(70, &[2, 1, 3, 4, 0xC5, 6, 7, 8, 9, 10, 11])),
         _ => (),
     }
     if size >= 7 {

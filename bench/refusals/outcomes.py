@@ -1,6 +1,6 @@
 #!/usr/bin/env python3
 """Writes what crates/refusal_cases must print for the cases in its stdin (their fields: crates/refusal_cases/src/main.rt), by document 01 as changed by
-document 02 §2 and §6. AES-CTR is that of the package `cryptography`.
+document 02 §2, §6 and §7. AES-CTR is that of the package `cryptography`.
 
     python3 bench/refusals/outcomes.py [CASES] > crates/refusal_cases/stdout
 """
@@ -12,7 +12,8 @@ from cryptography.hazmat.primitives.ciphers import Cipher, algorithms, modes
 REPLIES = {n: "error 9900" for n in (5, 6, 7, 12, 13, 14, 16, 17)} | {
     8: "error 9902", 9: "error 9902", 10: "error 9903", 11: "error 9903", 15: "error 9901",
     18: "code 32", 19: "code 44", 20: "code 36", 21: "code 40", 22: "code 48", 23: "code 32", 24: "code 33"}
-MARKS = {0: "S", 1: "A", 2: "AMB", 3: "AMB", 4: "AMBS", 5: "AMBS", 6: "A", 10: "A", 11: "A", 12: "AMB", 13: "AMB", 20: "AMBS", 21: "AMB"}
+MARKS = {0: "S", 1: "A", 2: "AMB", 3: "AMB", 4: "AMBS", 5: "AMBS", 6: "A", 10: "A", 11: "A", 12: "AMB", 13: "AMB", 20: "AMBS", 21: "AMB",
+         70: "AMB", 71: "AMB", 72: "AM", 80: "A"}
 LEVELS = {0: "A", 1: "M", 2: "B", 100: "S"}
 EMPTY = 0, [bytes(3)] * 8
 
@@ -63,6 +64,14 @@ def fields(command, q):
         refuse(23, n == 0 or n != 1 + 2 * q[0])
         refuse(24, any(value > 100 for value in q[2::2]))
         return [q[0], f"1+{n - 1}"]
+    if command == 70:
+        refuse(23, n != 11)
+        offset = int.from_bytes(q[4:5], "little", signed=True)
+        return [number(q, 0, 2), *q[2:6], number(q, 6, 3), number(q, 9, 2), f"offset {offset}"]
+    if command == 71:
+        refuse(23, n != 7)
+        refuse(24, q[6] > 60)
+        return [number(q, 0, 2), q[2], number(q, 3, 3), q[6]]
     refuse(23, n != 0)
     return []
 

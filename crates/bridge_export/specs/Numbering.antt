@@ -32,6 +32,10 @@ packedCommand command.NoOperation = packed 1112 0 0
 packedCommand command.Disconnect = packed 1113 0 0
 packedCommand (command.Switch value) = packed 1120 value 0
 packedCommand (command.MultiSwitch f) = packed 1121 (f .count) (f .pairs .len)
+packedCommand (command.RegisterTrackedDevice f) = packed 1170 (f .device) (f .token)
+packedCommand (command.TrackedDeviceHeartbeat f) = packed 1171 (f .device) (f .token)
+packedCommand command.GetPresence = packed 1172 0 0
+packedCommand command.GetUptime = packed 1180 0 0
 
 -- 1000 and the data type, and two fields
 abbrev pub packedMessage : Message → ℕ

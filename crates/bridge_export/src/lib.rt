@@ -50,6 +50,10 @@ fn packed_command(c: Command) -> u64
             let pairs = f.pairs;
             pack(1121, f.count as u64, pairs.len as u64)
         }
+        Command::RegisterTrackedDevice(f) => pack(1170, f.device as u64, f.token as u64),
+        Command::TrackedDeviceHeartbeat(f) => pack(1171, f.device as u64, f.token as u64),
+        Command::GetPresence => pack(1172, 0, 0),
+        Command::GetUptime => pack(1180, 0, 0),
     }
 }
 

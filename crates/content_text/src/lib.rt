@@ -1,4 +1,5 @@
-// What a command and a message hold, as a text in document 01's numbers: each number behind a space, each part as START+LENGTH behind one.
+// What a command and a message hold, as a text in the documents' numbers: each number behind a space, of a signed one its byte, and its value behind the
+// word offset; each part as START+LENGTH behind a space.
 mod fields;
 
 use control::Command;
@@ -8,10 +9,15 @@ ghost use Prim.Native.Nat.{_≤_};
 ghost use lib.ListN.{length, take};
 ghost use Rattle.text.specs.Puts.{Puts};
 ghost use Rattle.text.specs.Digits.{decimals};
-ghost use Rattle.content_text.specs.Content.{partText, partTexts, countingParts, commandText, messageText};
+ghost use Rattle.content_text.specs.Content.{partText, partTexts, countingParts, offsetText, signedText, commandText, messageText};
 
-// Six numbers, of which the first so many count.
-struct Numbers(usize, [u64; 6]);
+// Eight numbers, of which the first so many count.
+struct Numbers(usize, [u64; 8]);
+
+enum Offset {
+    Absent,
+    Rssi(i8),
+}
 
 // Two parts, of which the first so many count.
 struct Parts(usize, Part, Part);
@@ -49,19 +55,40 @@ fn put_numbers(out: &mut [u8], at: usize, n: Numbers) -> usize
     text::decimals(out, at, &values[..count])
 }
 
-// A command: its number, the numbers in its fields, its parts.
+fn put_offset(out: &mut [u8], at: usize, o: Offset) -> usize
+    ensures { λ r. ⌜ Puts (offsetText o) at (now (out .entry)) r (now (out .exit)) ⌝ }
+{
+    match o {
+        Offset::Absent => at,
+        Offset::Rssi(v) => put_signed(out, at, v),
+    }
+}
+
+fn put_signed(out: &mut [u8], at: usize, v: i8) -> usize
+    ensures { λ r. ⌜ Puts (signedText v) at (now (out .entry)) r (now (out .exit)) ⌝ }
+{
+    let b = wire::unsigned_of(v);
+    if b < 128 {
+        return text::named(out, at, b" offset ", b as u64);
+    }
+    text::named(out, at, b" offset -", 256 - (b as u64))
+}
+
+// A command: its number, the numbers in its fields, its offset, its parts.
 pub fn command(out: &mut [u8], at: usize, c: Command) -> usize
     ensures { λ r. ⌜ Puts (commandText c) at (now (out .entry)) r (now (out .exit)) ⌝ }
 {
-    let behind = put_numbers(out, at, fields::command_numbers(c));
-    put_parts(out, behind, fields::command_parts(c))
+    let a = put_numbers(out, at, fields::command_numbers(c));
+    let b = put_offset(out, a, fields::command_offset(c));
+    put_parts(out, b, fields::command_parts(c))
 }
 
-// A message: its data type, the numbers in its fields, its parts; behind a control message's type its command.
+// A message: its data type, the numbers in its fields, its offset, its parts; behind a control message's type its command.
 pub fn message(out: &mut [u8], at: usize, m: Message) -> usize
     ensures { λ r. ⌜ Puts (messageText m) at (now (out .entry)) r (now (out .exit)) ⌝ }
 {
     let a = text::decimals(out, at, &[fields::message_type(m)]);
     let b = put_numbers(out, a, fields::message_numbers(m));
-    put_parts(out, b, fields::message_parts(m))
+    let c = put_offset(out, b, fields::message_offset(m));
+    put_parts(out, c, fields::message_parts(m))
 }

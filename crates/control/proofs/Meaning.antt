@@ -19,6 +19,7 @@ use Rattle.wire.proofs.Fields.{part-end}
 use Rattle.wire.proofs.Lists.{part-in, nil-of}
 use Rattle.wire.proofs.Lookup.{lookup-all, _also_}
 use Rattle.wire.proofs.Rules.{judge-map}
+use Rattle.wire.proofs.Signed.{unsigned-signed}
 use Rattle.access.specs.declared.Mode.{Mode}
 use Rattle.access.specs.declared.Access.{Access}
 use Rattle.control.specs.Command.{commandContent, commandBytes, keyPart}
@@ -86,6 +87,10 @@ module _ (q : List ℕ) where
       also (λ e l z f. holding (fixed 0 e refl z))
       also (λ e l z f. holding (fixed 1 e refl z))
       also (λ e l z f. let h : 1 ≤ length q = omega (arith, eqb-true (length q) (1 + 2 * getD q 0 0) (not-false _ z)) in holding (same-content (sym e) refl (one-part 1 h), part-end q 1 h))
+      also (λ e l z f. holding (fixed 11 e (ap (λ (v : ℕ). num 2 0 q ∷ getD q 2 0 ∷ getD q 3 0 ∷ v ∷ getD q 5 0 ∷ num 3 6 q ∷ num 2 9 q ∷ []) (unsigned-signed (getD q 4 0))) z))
+      also (λ e l z f. holding (fixed 7 e refl z))
+      also (λ e l z f. holding (fixed 0 e refl z))
+      also (λ e l z f. holding (fixed 0 e refl z))
       also (λ l z f. true-false (sym l)))
 
 -- setup's six keys stand behind stone and sphere, 16 bytes each

@@ -4,12 +4,13 @@ use mathlib.Core.Bool.{_&&_}
 use mathlib.Core.List.{List, [], _∷_}
 use lib.Dec.{eqb, ltb}
 use Rattle.wire.specs.Choice.{pick}
+use Rattle.wire.specs.Signed.{unsigned}
 use Rattle.wire.specs.Parts.{part}
 use Rattle.wire.specs.Content.{Content, content}
 use Rattle.wire.specs.Fields.{eachPart, partsOf}
 use Rattle.wire.specs.declared.Part.{Part}
 use Rattle.control.specs.declared.Command.{Command}
-use Rattle.control.specs.declared.Command.the-variants.{Setup, FactoryReset, GetState, SetState, BootloaderVersion, UicrData, IbeaconConfig, Reset, GotoDfu, NoOperation, Disconnect, Switch, MultiSwitch}
+use Rattle.control.specs.declared.Command.the-variants.{Setup, FactoryReset, GetState, SetState, BootloaderVersion, UicrData, IbeaconConfig, Reset, GotoDfu, NoOperation, Disconnect, Switch, MultiSwitch, RegisterTrackedDevice, TrackedDeviceHeartbeat, GetPresence, GetUptime}
 
 abbrev pub commandNumber : Command → ℕ
 commandNumber (Setup f) = 0
@@ -25,8 +26,12 @@ commandNumber NoOperation = 12
 commandNumber Disconnect = 13
 commandNumber (Switch v) = 20
 commandNumber (MultiSwitch f) = 21
+commandNumber (RegisterTrackedDevice f) = 70
+commandNumber (TrackedDeviceHeartbeat f) = 71
+commandNumber GetPresence = 72
+commandNumber GetUptime = 80
 
--- a factory reset carries DEADBEEF; behind a state's mode stands the reserved 0
+-- a factory reset carries DEADBEEF; behind a state's mode stands the reserved 0; of a signed number the byte that stands for it
 abbrev pub commandValues : Command → List ℕ
 commandValues (Setup f) = f .stone ∷ f .sphere ∷ []
 commandValues FactoryReset = 0xDEADBEEF ∷ []
@@ -41,6 +46,11 @@ commandValues NoOperation = []
 commandValues Disconnect = []
 commandValues (Switch v) = v ∷ []
 commandValues (MultiSwitch f) = f .count ∷ []
+commandValues (RegisterTrackedDevice f) =
+    f .device ∷ f .location ∷ f .profile ∷ unsigned (f .offset) ∷ f .flags ∷ f .token ∷ f .ttl .0 ∷ []
+commandValues (TrackedDeviceHeartbeat f) = f .device ∷ f .location ∷ f .token ∷ f .ttl .0 ∷ []
+commandValues GetPresence = []
+commandValues GetUptime = []
 
 -- the parts that name what stands behind the fields, in order
 abbrev pub commandParts : Command → List Part
@@ -57,6 +67,10 @@ commandParts NoOperation = []
 commandParts Disconnect = []
 commandParts (Switch v) = []
 commandParts (MultiSwitch f) = f .pairs ∷ []
+commandParts (RegisterTrackedDevice f) = []
+commandParts (TrackedDeviceHeartbeat f) = []
+commandParts GetPresence = []
+commandParts GetUptime = []
 
 -- a command's content, its parts naming bytes of a payload, or of what a writer is lent
 abbrev pub commandContent : Command → List ℕ → Content

@@ -1,9 +1,10 @@
--- The table of commands ('Messages', second table): a row each.
+-- The table of commands ('Messages', second table, and document 02 §7): a row each.
 use Prim.Native.Nat.{ℕ, _-_}
 use mathlib.Core.Bool.{Bool, true, false, _||_}
 use mathlib.Core.List.{List, [], _∷_}
 use lib.ListN.{getD}
 use Rattle.wire.specs.Lookup.{lookup}
+use Rattle.wire.specs.Signed.{signed}
 use Rattle.wire.specs.Parts.{part}
 use Rattle.wire.specs.Fields.{Field, Layout, layout, exactly, atLeast, pairs, any, upTo, is, nothing, free, cutAt, seconds}
 use Rattle.access.specs.declared.Mode.{Mode}
@@ -13,7 +14,7 @@ use Rattle.access.specs.declared.Access.the-variants.{Plain, Keyed, Unknown}
 use Rattle.access.specs.declared.Level.the-variants.{Admin, Member, Basic, Setup as SetupLevel}
 use Rattle.control.specs.declared.marks.Marks.{Marks}
 use Rattle.control.specs.declared.Command.{Command}
-use Rattle.control.specs.declared.Command.the-variants.{Setup, FactoryReset, GetState, SetState, BootloaderVersion, UicrData, IbeaconConfig, Reset, GotoDfu, NoOperation, Disconnect, Switch, MultiSwitch}
+use Rattle.control.specs.declared.Command.the-variants.{Setup, FactoryReset, GetState, SetState, BootloaderVersion, UicrData, IbeaconConfig, Reset, GotoDfu, NoOperation, Disconnect, Switch, MultiSwitch, RegisterTrackedDevice, TrackedDeviceHeartbeat, GetPresence, GetUptime}
 
 -- ---- marks of access: A admin, M member, B basic, S setup
 abbrev pub marks : Bool → Bool → Bool → Bool → Marks
@@ -21,6 +22,9 @@ marks a m b s = record { admin = a; member = m; basic = b; setup = s }
 
 abbrev pub A : Marks
 A = marks true false false false
+
+abbrev pub AM : Marks
+AM = marks true true false false
 
 abbrev pub AMB : Marks
 AMB = marks true true true false
@@ -85,6 +89,14 @@ table =
     ∷ row 20 AMBS (layout (exactly 1) (upTo 1 100 ∷ []) nothing) (λ v n. Switch (getD v 0 0))
     ∷ row 21 AMB (layout pairs (any 1 ∷ []) (seconds 100))
     (λ v n. MultiSwitch (record { count = getD v 0 0; pairs = part 1 (n - 1) }))
+    -- device id, location, profile, RSSI offset, flags, token, time to live
+    ∷ row 70 AMB (layout (exactly 11) (any 2 ∷ any 1 ∷ any 1 ∷ any 1 ∷ any 1 ∷ any 3 ∷ any 2 ∷ []) nothing)
+    (λ v n. RegisterTrackedDevice (record { device = getD v 0 0; location = getD v 1 0; profile = getD v 2 0; offset = signed (getD v 3 0); flags = getD v 4 0; token = getD v 5 0; ttl = record { 0 = getD v 6 0 } }))
+    -- device id, location, token, time to live
+    ∷ row 71 AMB (layout (exactly 7) (any 2 ∷ any 1 ∷ any 3 ∷ upTo 1 60 ∷ []) nothing)
+    (λ v n. TrackedDeviceHeartbeat (record { device = getD v 0 0; location = getD v 1 0; token = getD v 2 0; ttl = record { 0 = getD v 3 0 } }))
+    ∷ row 72 AM none (λ v n. GetPresence)
+    ∷ row 80 A none (λ v n. GetUptime)
     ∷ []
 
 -- what a command that is not listed gets: 20 refuses it before the rest is asked

@@ -3,12 +3,14 @@ mod marks;
 mod payloads;
 
 use crate::marks::A;
+use crate::marks::AM;
 use crate::marks::AMB;
 use crate::marks::AMBS;
 use crate::marks::S;
 use crate::marks::by_mark;
 use access::Access;
 use access::Mode;
+use units::Minutes;
 use wire::Part;
 ghost use mathlib.Core.Path.{_≡_};
 ghost use lib.ListN.{drop};
@@ -31,6 +33,10 @@ pub enum Command {
     Disconnect,
     Switch(u8),
     MultiSwitch(MultiSwitchFields),
+    RegisterTrackedDevice(TrackedDeviceFields),
+    TrackedDeviceHeartbeat(DeviceHeartbeatFields),
+    GetPresence,
+    GetUptime,
 }
 
 // Keys: six of 16 bytes, one behind the other.
@@ -65,6 +71,25 @@ pub struct IbeaconFields {
 pub struct MultiSwitchFields {
     pub count: u8,
     pub pairs: Part,
+}
+
+// A badge. Offset: of its RSSI from the standard; token: a number of three bytes; ttl: time to live.
+pub struct TrackedDeviceFields {
+    pub device: u16,
+    pub location: u8,
+    pub profile: u8,
+    pub offset: i8,
+    pub flags: u8,
+    pub token: u32,
+    pub ttl: Minutes,
+}
+
+// Where a registered device is, and for how long that holds.
+pub struct DeviceHeartbeatFields {
+    pub device: u16,
+    pub location: u8,
+    pub token: u32,
+    pub ttl: Minutes,
 }
 
 pub enum ControlRead {
@@ -148,6 +173,10 @@ fn read_row(number: u16, q: &[u8], mode: Mode, access: Access) -> ControlRead
         13 => by_mark(AMB, mode, access, payloads::none(q, Command::Disconnect)),
         20 => by_mark(AMBS, mode, access, payloads::switch(q)),
         21 => by_mark(AMB, mode, access, payloads::multi_switch(q)),
+        70 => by_mark(AMB, mode, access, payloads::register_tracked_device(q)),
+        71 => by_mark(AMB, mode, access, payloads::tracked_device_heartbeat(q)),
+        72 => by_mark(AM, mode, access, payloads::none(q, Command::GetPresence)),
+        80 => by_mark(A, mode, access, payloads::none(q, Command::GetUptime)),
         _ => ControlRead::Refused(20),
     }
 }

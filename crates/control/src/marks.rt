@@ -23,6 +23,13 @@ pub const A: Marks = Marks {
     setup: false,
 };
 
+pub const AM: Marks = Marks {
+    admin: true,
+    member: true,
+    basic: false,
+    setup: false,
+};
+
 pub const AMB: Marks = Marks {
     admin: true,
     member: true,

@@ -1,11 +1,14 @@
 // A reader for each payload: 23 for its length, 24 for a field, or the command.
 use crate::Command;
 use crate::ControlRead;
+use crate::DeviceHeartbeatFields;
 use crate::GetStateFields;
 use crate::IbeaconFields;
 use crate::MultiSwitchFields;
 use crate::SetStateFields;
 use crate::SetupFields;
+use crate::TrackedDeviceFields;
+use units::Minutes;
 use wire::Part;
 ghost use mathlib.Core.Path.{_≡_};
 ghost use Rattle.wire.specs.Fields.{wrongAt};
@@ -139,6 +142,42 @@ pub fn multi_switch(q: &[u8]) -> ControlRead
             start: 1,
             len: q.len() - 1,
         },
+    }))
+}
+
+pub fn register_tracked_device(q: &[u8]) -> ControlRead
+    ensures { λ r. ⌜ r ≡ readPayload (rowOf 70) (now (q .entry)) ⌝ }
+{
+    if q.len() != 11 {
+        return ControlRead::Refused(23);
+    }
+    ControlRead::Accepted(Command::RegisterTrackedDevice(TrackedDeviceFields {
+        device: wire::read_u16(q, 0),
+        location: q[2],
+        profile: q[3],
+        offset: wire::signed_of(q[4]),
+        flags: q[5],
+        token: wire::read_u24(q, 6),
+        ttl: Minutes(wire::read_u16(q, 9) as u64),
+    }))
+}
+
+// A device's heartbeat holds for at most 60 minutes.
+pub fn tracked_device_heartbeat(q: &[u8]) -> ControlRead
+    ensures { λ r. ⌜ r ≡ readPayload (rowOf 71) (now (q .entry)) ⌝ }
+{
+    if q.len() != 7 {
+        return ControlRead::Refused(23);
+    }
+    let minutes = wire::byte_at(q, 6);
+    if 60 < minutes {
+        return ControlRead::Refused(24);
+    }
+    ControlRead::Accepted(Command::TrackedDeviceHeartbeat(DeviceHeartbeatFields {
+        device: wire::read_u16(q, 0),
+        location: q[2],
+        token: wire::read_u24(q, 3),
+        ttl: Minutes(minutes as u64),
     }))
 }
 

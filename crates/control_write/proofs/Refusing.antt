@@ -4,7 +4,7 @@ use Prim.Native.Nat.{ℕ, _+_, _≤_, _<_}
 use mathlib.Core.Bool.{Bool, true, false, _||_}
 use mathlib.Core.List.{List, [], _∷_, _++_}
 use native.Mathlib.Omega.{arith}
-use lib.ListN.{length, length-append}
+use lib.ListN.{length, drop, length-append}
 use lib.Dec.{ltb}
 use borrow.Author.Tests.{lt-ltb, le-ltb}
 use Rattle.wire.specs.Numbers.{le}
@@ -12,7 +12,7 @@ use Rattle.wire.specs.Fields.{anyPast, unfit, wrongSize, wrongFields, sameLengt
 use Rattle.wire.specs.Writing.{Stores, Writes, noRoom}
 use Rattle.wire.specs.declared.Written.{Written}
 use Rattle.wire.specs.declared.Written.the-variants.{Refused}
-use Rattle.wire.proofs.Fields.{unreadable-past, unreadable-fields, unreadable-size, unreadable-cut, not-unreadable}
+use Rattle.wire.proofs.Fields.{unfit-drop, unreadable-past, unreadable-unfit, unreadable-fields, unreadable-size, unreadable-cut, not-unreadable}
 use Rattle.wire.proofs.Writers.{writes-bad, writes-good}
 use Rattle.control.specs.Command.{commandValues, commandParts}
 use Rattle.control.specs.declared.Command.{Command}
@@ -21,6 +21,11 @@ use Rattle.control_write.specs.Image.{packetImage, rowFor, payloadImage,
 module _ (limit : ℕ) (c : Command) (s : List ℕ) where
   pub bad-past : anyPast s (commandParts c) ≡ true → badWithin limit c s ≡ true
   bad-past e = rw (unreadable-past (rowFor c .payload) (commandValues c) (commandParts c) (commandParts (reread c s)) s e)
+
+  -- behind k others stands a number that does not fit
+  pub bad-unfit : (k : ℕ) → unfit (drop k (rowFor c .payload .fields)) (drop k (commandValues c)) ≡ true → badWithin limit c s ≡ true
+  bad-unfit k e =
+      rw (unreadable-unfit (rowFor c .payload) (commandValues c) (commandParts c) (commandParts (reread c s)) s (unfit-drop k (rowFor c .payload .fields) (commandValues c) e))
 
   pub bad-size : wrongSize (rowFor c .payload .size) (payloadImage c s) ≡ true → badWithin limit c s ≡ true
   bad-size e = rw (unreadable-size (rowFor c .payload) (commandValues c) (commandParts c) (commandParts (reread c s)) s e)

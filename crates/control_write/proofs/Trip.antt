@@ -19,14 +19,14 @@ use Rattle.wire.proofs.Choice.{and-holds, or-fails}
 use Rattle.wire.proofs.Content.{same-content}
 use Rattle.wire.proofs.Held.{held}
 use Rattle.wire.proofs.Fields.{Readable, readable, part-length}
-use Rattle.wire.proofs.Writers.{wrote-image}
+use Rattle.wire.proofs.Writers.{wrote-back}
 use Rattle.access.specs.declared.Mode.{Mode}
 use Rattle.access.specs.declared.Access.{Access}
 use Rattle.control.specs.Command.{commandNumber, commandValues, commandParts, commandBytes}
 use Rattle.control.specs.Table.{rowOf}
 use Rattle.control.specs.Control.{markRules, controlRules, commandAt}
 use Rattle.control.specs.declared.Command.{Command}
-use Rattle.control.specs.declared.Command.the-variants.{Setup, FactoryReset, GetState, SetState, BootloaderVersion, UicrData, IbeaconConfig, Reset, GotoDfu, NoOperation, Disconnect, Switch, MultiSwitch}
+use Rattle.control.specs.declared.Command.the-variants.{Setup, FactoryReset, GetState, SetState, BootloaderVersion, UicrData, IbeaconConfig, Reset, GotoDfu, NoOperation, Disconnect, Switch, MultiSwitch, RegisterTrackedDevice, TrackedDeviceHeartbeat, GetPresence, GetUptime}
 use Rattle.control.specs.declared.ControlRead.the-variants.{Accepted, Refused}
 use Rattle.control.specs.Accepts.{Permits, Accepts}
 use Rattle.control.proofs.Reading.{control-clear}
@@ -49,6 +49,10 @@ listed NoOperation = refl
 listed Disconnect = refl
 listed (Switch v) = refl
 listed (MultiSwitch f) = refl
+listed (RegisterTrackedDevice f) = refl
+listed (TrackedDeviceHeartbeat f) = refl
+listed GetPresence = refl
+listed GetUptime = refl
 
 -- a command's parts, one behind the other, are cut into the same parts by its row
 parts-apart : (c : Command) (s : List ℕ) → anyPast s (commandParts c) ≡ false → sameLengths (commandParts c) (commandParts (reread c s)) ≡ true
@@ -70,6 +74,10 @@ parts-apart NoOperation s w l = refl
 parts-apart Disconnect s w l = refl
 parts-apart (Switch v) s w l = refl
 parts-apart (MultiSwitch f) s w l = refl
+parts-apart (RegisterTrackedDevice f) s w l = refl
+parts-apart (TrackedDeviceHeartbeat f) s w l = refl
+parts-apart GetPresence s w l = refl
+parts-apart GetUptime s w l = refl
 
 number-back : (n : ℕ) (q : List ℕ) → num 2 1 (packetImage n q) ≡ n
 number-back n q = omega arith
@@ -112,6 +120,4 @@ module _ (c : Command) (s : List ℕ) (m : Mode) (a : Access) (good : commandBad
 pub wrote-reads : (c : Command) (s room after : List ℕ) (r : Written) (n : ℕ) (m : Mode) (a : Access)
     → Writes (commandBad c s) (controlImage c s) room r after → r ≡ Wrote n → firstBroken (markRules (rowFor c .marked) m a) ≡ 0
     → ReadsBack c s (take n after) m a
-wrote-reads c s room after r n m a w e may =
-    let d = wrote-image n w e in
-    subst (λ (p : List ℕ). ReadsBack c s p m a) (sym (d .1)) (reads-back c s m a (d .0) may)
+wrote-reads c s room after r n m a w e may = wrote-back (λ (p : List ℕ). ReadsBack c s p m a) (λ good. reads-back c s m a good may) n w e

@@ -31,5 +31,13 @@ pub fn write_behind(front: &[u8], limit: usize, c: Command, bytes: &[u8], out: &
         Command::Disconnect => payloads::none(front, limit, 13, bytes, out),
         Command::Switch(value) => payloads::switch(front, limit, value, bytes, out),
         Command::MultiSwitch(f) => payloads::multi_switch(front, limit, f, bytes, out),
+        Command::RegisterTrackedDevice(f) => {
+            payloads::register_tracked_device(front, limit, f, bytes, out)
+        }
+        Command::TrackedDeviceHeartbeat(f) => {
+            payloads::tracked_device_heartbeat(front, limit, f, bytes, out)
+        }
+        Command::GetPresence => payloads::none(front, limit, 72, bytes, out),
+        Command::GetUptime => payloads::none(front, limit, 80, bytes, out),
     }
 }

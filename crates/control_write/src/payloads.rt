@@ -1,9 +1,11 @@
 // A writer for each payload: 17 for what its reader would refuse.
+use control::DeviceHeartbeatFields;
 use control::GetStateFields;
 use control::IbeaconFields;
 use control::MultiSwitchFields;
 use control::SetStateFields;
 use control::SetupFields;
+use control::TrackedDeviceFields;
 use wire::Written;
 ghost use mathlib.Core.Bool.{_||_};
 ghost use mathlib.Core.Path.{_≡_};
@@ -12,7 +14,7 @@ ghost use lib.Dec.{ltb};
 ghost use lib.ListN.{length};
 ghost use Rattle.wire.specs.Numbers.{le};
 ghost use Rattle.wire.specs.Writing.{Writes};
-ghost use Rattle.control.specs.declared.Command.the-variants.{Setup, FactoryReset, GetState, SetState, IbeaconConfig, Switch, MultiSwitch};
+ghost use Rattle.control.specs.declared.Command.the-variants.{Setup, FactoryReset, GetState, SetState, IbeaconConfig, Switch, MultiSwitch, RegisterTrackedDevice, TrackedDeviceHeartbeat};
 ghost use Rattle.control_write.specs.Image.{packetImage, WritesBehind};
 
 // A packet behind the bytes of `front`, its payload `fields`, `a` and `b`: 17 for one longer than the size field counts, or than `limit`.
@@ -187,6 +189,66 @@ pub fn multi_switch(
     }
     let fields = [f.count];
     packet(front, limit, 21, &fields, &bytes[0..0], named, out)
+}
+
+pub fn register_tracked_device(
+    front: &[u8],
+    limit: usize,
+    f: TrackedDeviceFields,
+    bytes: &[u8],
+    out: &mut [u8],
+) -> Written
+    ensures { λ r. ⌜ WritesBehind (now (front .entry)) limit (RegisterTrackedDevice f) (now (bytes .entry)) (now (out .entry)) r (now (out .exit)) ⌝ }
+{
+    let ttl = f.ttl;
+    if 0xFFFFFF < f.token {
+        return Written::Refused(17);
+    }
+    if 65535 < ttl.0 {
+        return Written::Refused(17);
+    }
+    let none = &bytes[0..0];
+    let d = wire::u16_bytes(f.device);
+    let o = wire::unsigned_of(f.offset);
+    let t = wire::u24_bytes(f.token);
+    let m = wire::u16_bytes(ttl.0 as u16);
+    let fields = [
+        d[0],
+        d[1],
+        f.location,
+        f.profile,
+        o,
+        f.flags,
+        t[0],
+        t[1],
+        t[2],
+        m[0],
+        m[1],
+    ];
+    packet(front, limit, 70, &fields, none, none, out)
+}
+
+pub fn tracked_device_heartbeat(
+    front: &[u8],
+    limit: usize,
+    f: DeviceHeartbeatFields,
+    bytes: &[u8],
+    out: &mut [u8],
+) -> Written
+    ensures { λ r. ⌜ WritesBehind (now (front .entry)) limit (TrackedDeviceHeartbeat f) (now (bytes .entry)) (now (out .entry)) r (now (out .exit)) ⌝ }
+{
+    let ttl = f.ttl;
+    if 0xFFFFFF < f.token {
+        return Written::Refused(17);
+    }
+    if 60 < ttl.0 {
+        return Written::Refused(17);
+    }
+    let none = &bytes[0..0];
+    let d = wire::u16_bytes(f.device);
+    let t = wire::u24_bytes(f.token);
+    let fields = [d[0], d[1], f.location, t[0], t[1], t[2], ttl.0 as u8];
+    packet(front, limit, 71, &fields, none, none, out)
 }
 
 // A command that has no payload.

@@ -44,6 +44,10 @@ admin-marked n =
     also (λ e h. refl)
     also (λ e h. refl)
     also (λ e h. refl)
+    also (λ e h. refl)
+    also (λ e h. refl)
+    also (λ e h. refl)
+    also (λ e h. refl)
     also (λ h. refl))
 
 marked : (f : Form) (mode : Mode) → FormInMode f mode → (n : ℕ) → inMode mode (rowOf n .marked) ≡ true → hasMark (accessOf f) (rowOf n .marked) ≡ true

@@ -18,7 +18,7 @@ use Rattle.wire.proofs.Content.{same-content}
 use Rattle.wire.proofs.Fields.{readable}
 use Rattle.wire.proofs.Rules.{first-right}
 use Rattle.wire.proofs.Held.{held, unbroken}
-use Rattle.wire.proofs.Writers.{wrote-image}
+use Rattle.wire.proofs.Writers.{wrote-back}
 use Rattle.access.specs.declared.Mode.{Mode}
 use Rattle.control.specs.Control.{markRules}
 use Rattle.control.specs.declared.Command.{Command}
@@ -96,5 +96,4 @@ pub wrote-reads : (m : Message) (s room after : List ℕ) (r : Written) (n : ℕ
     → Writes (messageBad m s) (messageImage m s) room r after → r ≡ Wrote n → firstBroken (permitRules m f required mode) ≡ 0
     → ReadsBack m s (take n after) f required mode
 wrote-reads m s room after r n f required mode w e may =
-    let d = wrote-image n w e in
-    subst (λ (p : List ℕ). ReadsBack m s p f required mode) (sym (d .1)) (reads-back s f required mode m (d .0) may)
+    wrote-back (λ (p : List ℕ). ReadsBack m s p f required mode) (λ good. reads-back s f required mode m good may) n w e

@@ -10,8 +10,10 @@ use control::ControlRead;
 use message::Form;
 use message::Message;
 use message::MessageRead;
+use result::PresenceResult;
 use result::ResultPacket;
 use result::ResultRead;
+use result::UptimeResult;
 use text::reading;
 use wire::Part;
 use wire::Written;
@@ -63,12 +65,25 @@ fn again(out: &mut [u8], at: usize, w: Written, room: &[u8], bytes: &[u8]) -> us
     }
 }
 
-// What a reader made of a packet or a message; a result with what came of its command: 0 done, 1 waiting, 2 failed.
+// What a reader made of a packet or a message; a result without fields of its own with what came of its command: 0 done, 1 waiting, 2 failed.
 enum Read {
     Refused(u8),
     Command(Command),
     Message(Message),
     Result(usize, ResultPacket),
+    Presence(PresenceResult),
+    Uptime(UptimeResult),
+}
+
+fn read_result(bytes: &[u8]) -> Read {
+    match result::read_result(bytes) {
+        ResultRead::Done(r) => Read::Result(0, r),
+        ResultRead::Presence(r) => Read::Presence(r),
+        ResultRead::Uptime(r) => Read::Uptime(r),
+        ResultRead::Waiting(r) => Read::Result(1, r),
+        ResultRead::Failed(r) => Read::Result(2, r),
+        ResultRead::Refused(n) => Read::Refused(n),
+    }
 }
 
 fn read_as(kind: u8, bytes: &[u8], way: &[u8]) -> Read {
@@ -84,12 +99,7 @@ fn read_as(kind: u8, bytes: &[u8], way: &[u8]) -> Read {
                 MessageRead::Accepted(m) => Read::Message(m),
             }
         }
-        _ => match result::read_result(bytes) {
-            ResultRead::Done(r) => Read::Result(0, r),
-            ResultRead::Waiting(r) => Read::Result(1, r),
-            ResultRead::Failed(r) => Read::Result(2, r),
-            ResultRead::Refused(n) => Read::Refused(n),
-        },
+        _ => read_result(bytes),
     }
 }
 
@@ -99,6 +109,8 @@ fn content(out: &mut [u8], at: usize, r: Read) -> usize {
         Read::Command(c) => content_text::command(out, at, c),
         Read::Message(m) => content_text::message(out, at, m),
         Read::Result(outcome, p) => result_content(out, at, outcome, p),
+        Read::Presence(r) => presence_content(out, at, r),
+        Read::Uptime(r) => uptime_content(out, at, r),
     }
 }
 
@@ -116,6 +128,20 @@ fn result_content(out: &mut [u8], at: usize, outcome: usize, r: ResultPacket) ->
     content_text::part(out, b, payload)
 }
 
+// The code, the eight masks.
+fn presence_content(out: &mut [u8], at: usize, r: PresenceResult) -> usize {
+    let m = r.masks;
+    let a = text::named(out, at, b" presence ", r.code as u64);
+    text::decimals(out, a, &[m.0, m.1, m.2, m.3, m.4, m.5, m.6, m.7])
+}
+
+// The code, the seconds.
+fn uptime_content(out: &mut [u8], at: usize, r: UptimeResult) -> usize {
+    let uptime = r.uptime;
+    let a = text::named(out, at, b" uptime ", r.code as u64);
+    text::named(out, a, b" ", uptime.0)
+}
+
 fn write(r: Read, bytes: &[u8], room: &mut [u8]) -> Written {
     match r {
         Read::Refused(n) => Written::Refused(n),
@@ -125,6 +151,8 @@ fn write(r: Read, bytes: &[u8], room: &mut [u8]) -> Written {
             message_write::write_message(m, parts, room)
         }
         Read::Result(_, p) => result::write_result(p, bytes, room),
+        Read::Presence(r) => result::write_presence(r, room),
+        Read::Uptime(r) => result::write_uptime(r, room),
     }
 }
 

@@ -1,17 +1,23 @@
-// The writers. A case gives the numbers and the parts as a content's text has them, a control message's command behind a colon; the bytes lent;
-// the length of the room, and of a long one the place to look at: 8 bytes before the image's end.
+// The writers. A case gives the numbers and the parts as a content's text has them, but an RSSI offset signed and in its byte's place, a mask of rooms in base
+// 16, high digit first, and a control message's command behind a colon; the bytes lent; the length of the room, and of a long one the place to look at: 8
+// bytes before the image's end.
 use control::Command;
+use control::DeviceHeartbeatFields;
 use control::GetStateFields;
 use control::IbeaconFields;
 use control::MultiSwitchFields;
 use control::SetStateFields;
 use control::SetupFields;
+use control::TrackedDeviceFields;
 use message::HubReplyFields;
 use message::Message;
 use message::Nonce;
 use message::SessionNonceFields;
 use message::StatusFields;
+use result::PresenceResult;
 use result::ResultPacket;
+use result::RoomMasks;
+use result::UptimeResult;
 use text::reading;
 use units::Minutes;
 use units::Seconds;
@@ -30,6 +36,27 @@ fn short(v: &[u8], k: usize) -> u16 {
     (number(v, k) % 65536) as u16
 }
 
+fn long(v: &[u8], k: usize) -> u32 {
+    (number(v, k) % 4294967296) as u32
+}
+
+// From -128 to 127. Not by wire::signed_of, whose inverse the writers use.
+fn signed(v: &[u8], k: usize) -> i8 {
+    let s = reading::field(v, b' ', k);
+    if wire::byte_at(s, 0) != b'-' {
+        return (reading::number(s) % 128) as i8;
+    }
+    let below = reading::number(reading::field(s, b'-', 1)) % 128;
+    -1 - (((below + 127) % 128) as i8)
+}
+
+// reading::number has no room for 2^64 - 1.
+fn mask(v: &[u8], k: usize) -> u64 {
+    let mut b = [0u8; 8];
+    reading::bytes(&mut b, 0, reading::field(v, b' ', k));
+    wire::read_u64(&[b[7], b[6], b[5], b[4], b[3], b[2], b[1], b[0]], 0)
+}
+
 fn part(p: &[u8], k: usize) -> Part {
     let s = reading::field(p, b' ', k);
     Part {
@@ -44,6 +71,27 @@ fn state(v: &[u8], value: Part) -> SetStateFields {
         id: short(v, 2),
         mode: byte(v, 3),
         value,
+    }
+}
+
+fn tracked_device(v: &[u8]) -> TrackedDeviceFields {
+    TrackedDeviceFields {
+        device: short(v, 1),
+        location: byte(v, 2),
+        profile: byte(v, 3),
+        offset: signed(v, 4),
+        flags: byte(v, 5),
+        token: long(v, 6),
+        ttl: Minutes(number(v, 7)),
+    }
+}
+
+fn device_heartbeat(v: &[u8]) -> DeviceHeartbeatFields {
+    DeviceHeartbeatFields {
+        device: short(v, 1),
+        location: byte(v, 2),
+        token: long(v, 3),
+        ttl: Minutes(number(v, 4)),
     }
 }
 
@@ -66,7 +114,7 @@ fn command(v: &[u8], p: &[u8]) -> Command {
         5 => Command::UicrData,
         6 => Command::IbeaconConfig(IbeaconFields {
             id: byte(v, 1),
-            timestamp: (number(v, 2) % 4294967296) as u32,
+            timestamp: long(v, 2),
             interval: short(v, 3),
         }),
         10 => Command::Reset,
@@ -74,10 +122,21 @@ fn command(v: &[u8], p: &[u8]) -> Command {
         12 => Command::NoOperation,
         13 => Command::Disconnect,
         20 => Command::Switch(byte(v, 1)),
-        _ => Command::MultiSwitch(MultiSwitchFields {
+        21 => Command::MultiSwitch(MultiSwitchFields {
             count: byte(v, 1),
             pairs: part(p, 0),
         }),
+        _ => later_command(v),
+    }
+}
+
+// Those of document 02.
+fn later_command(v: &[u8]) -> Command {
+    match number(v, 0) {
+        70 => Command::RegisterTrackedDevice(tracked_device(v)),
+        71 => Command::TrackedDeviceHeartbeat(device_heartbeat(v)),
+        72 => Command::GetPresence,
+        _ => Command::GetUptime,
     }
 }
 
@@ -86,6 +145,29 @@ fn packet(v: &[u8], p: &[u8]) -> ResultPacket {
         command: short(v, 0),
         code: short(v, 1),
         payload: part(p, 0),
+    }
+}
+
+fn presence(v: &[u8]) -> PresenceResult {
+    PresenceResult {
+        code: short(v, 0),
+        masks: RoomMasks(
+            mask(v, 1),
+            mask(v, 2),
+            mask(v, 3),
+            mask(v, 4),
+            mask(v, 5),
+            mask(v, 6),
+            mask(v, 7),
+            mask(v, 8),
+        ),
+    }
+}
+
+fn uptime(v: &[u8]) -> UptimeResult {
+    UptimeResult {
+        code: short(v, 0),
+        uptime: Seconds(number(v, 1)),
     }
 }
 
@@ -111,18 +193,24 @@ fn message(v: &[u8], p: &[u8]) -> Message {
     }
 }
 
-// In the front of a room.
-fn write(bytes: &[u8], line: &[u8], room: &mut [u8], n: usize) -> Written {
-    if room.len() < n {
-        return Written::Refused(0);
-    }
+fn write(bytes: &[u8], line: &[u8], room: &mut [u8]) -> Written {
     let v = reading::field(line, b'|', 2);
     let p = reading::field(line, b'|', 4);
     match wire::byte_at(reading::field(line, b'|', 1), 1) {
-        b'c' => control_write::write_control(command(v, p), bytes, &mut room[..n]),
-        b'm' => message_write::write_message(message(v, p), bytes, &mut room[..n]),
-        _ => result::write_result(packet(v, p), bytes, &mut room[..n]),
+        b'c' => control_write::write_control(command(v, p), bytes, room),
+        b'm' => message_write::write_message(message(v, p), bytes, room),
+        b'p' => result::write_presence(presence(v), room),
+        b'u' => result::write_uptime(uptime(v), room),
+        _ => result::write_result(packet(v, p), bytes, room),
     }
+}
+
+// In the first bytes of a room.
+fn write_in_front(bytes: &[u8], line: &[u8], room: &mut [u8], n: usize) -> Written {
+    if room.len() < n {
+        return Written::Refused(0);
+    }
+    write(bytes, line, &mut room[..n])
 }
 
 // The writer's answer, and what stands in the room, which was full of EE.
@@ -130,7 +218,7 @@ pub fn written(out: &mut [u8], at: usize, bytes: &[u8], line: &[u8]) -> usize {
     let v = reading::field(line, b'|', 5);
     let n = number(v, 0) as usize;
     let mut room = crate::full();
-    let a = told(out, at, write(bytes, line, &mut room, n));
+    let a = told(out, at, write_in_front(bytes, line, &mut room, n));
     contents(
         out,
         a,

@@ -1,33 +1,76 @@
 -- A result that was read holds what its packet holds. Assumes nothing.
-use mathlib.Core.Path.{_≡_, refl, ap, _∙_}
-use Prim.Native.Nat.{ℕ, _+_}
-use mathlib.Core.List.{List}
+use mathlib.Core.Path.{_≡_, refl, sym, ap, _∙_}
+use Prim.Native.Nat.{ℕ, _+_, _-_}
+use mathlib.Core.Bool.{true, false}
+use mathlib.Core.List.{List, [], _∷_}
 use native.Mathlib.Omega.{arith}
-use lib.ListN.{length}
-use borrow.Author.Tests.{eqb-true, not-false}
+use lib.ListN.{length, drop}
+use borrow.Author.Tests.{eqb-true, le-ltb, not-false}
 use Rattle.wire.specs.Numbers.{num}
+use Rattle.wire.specs.Parts.{partOf}
 use Rattle.wire.specs.Rules.{firstBroken}
-use Rattle.wire.specs.Content.{accepted, refused}
+use Rattle.wire.specs.Content.{accepted, refused, content}
+use Rattle.wire.specs.Fields.{wrongSize, contentBy}
+use Rattle.wire.proofs.Choice.{true-false}
+use Rattle.wire.proofs.Content.{accepted-is}
 use Rattle.wire.proofs.Fields.{part-end}
 use Rattle.wire.proofs.Held.{held}
+use Rattle.wire.proofs.Lookup.{lookup-all, _also_}
 use Rattle.wire.proofs.Rules.{judge-map}
-use Rattle.result.specs.Result.{Outcome, done, waiting, failed, codeMeans, resultRules, resultContent, contentOf, resultAnswer, caseFor, outcomeOf, resultAt, readResult, ReadsResult}
+use Rattle.result.specs.Result.{Outcome, done, waiting, failed, codeMeans, isDone, anything, Row, table, otherRow, rowOf, payloadFor, made, resultRules, resulting, resultContent, maskValues, resultAnswer, caseFor, outcomeOf, resultAt, readResult, ReadsResult}
 use Rattle.result.specs.declared.ResultPacket.{ResultPacket}
+use Rattle.result.specs.declared.PresenceResult.{PresenceResult}
+use Rattle.result.specs.declared.UptimeResult.{UptimeResult}
 use Rattle.result.specs.declared.ResultRead.{ResultRead}
-use Rattle.result.specs.declared.ResultRead.the-variants.{Refused}
+use Rattle.result.specs.declared.ResultRead.the-variants.{Presence, Uptime, Refused}
 
--- each case holds its outcome
-pub case-content : (o : Outcome) (r : ResultPacket) (s : List ℕ) → resultAnswer (caseFor o r) s ≡ accepted (contentOf o r s)
-case-content done r s = refl
-case-content waiting r s = refl
-case-content failed r s = refl
+-- the one outcome that is done
+pub is-done : (o : Outcome) → isDone o ≡ true → o ≡ done
+is-done done e = refl
+is-done waiting e = true-false (sym e)
+is-done failed e = true-false (sym e)
 
--- a packet that neither 18 nor 19 refuses
-result-content : (p : List ℕ) → firstBroken (resultRules p) ≡ 0 → resultAnswer (outcomeOf (resultAt p)) p ≡ accepted (resultContent p)
+-- ---- payloads
+-- the length of a payload is asked about where the result is done, and not elsewhere
+pub when-done : (o : Outcome) (n : ℕ) (q : List ℕ) → isDone o ≡ true → wrongSize (payloadFor o n .size) q ≡ wrongSize (payloadFor done n .size) q
+when-done done n q e = refl
+when-done waiting n q e = true-false (sym e)
+when-done failed n q e = true-false (sym e)
+
+pub when-not : (o : Outcome) (n : ℕ) (q : List ℕ) → isDone o ≡ false → wrongSize (payloadFor o n .size) q ≡ false
+when-not done n q e = true-false e
+when-not waiting n q e = le-ltb (length q) 0 (omega arith)
+when-not failed n q e = le-ltb (length q) 0 (omega arith)
+
+-- each case holds what the payload's bytes q hold, where the result's part names them in s
+module _ (r : ResultPacket) (s q : List ℕ) (named : partOf s (r .payload) ≡ q) where
+  plain : (o : Outcome) → resulting o (r .code) (content (r .command) [] (partOf s (r .payload) ∷ [])) ≡ resulting o (r .code) (contentBy (r .command) anything q)
+  plain o = ap (λ (b : List ℕ). resulting o (r .code) (content (r .command) [] (b ∷ []))) named
+
+  -- what is claimed of a row
+  abbrev Claim : Row → Type 0
+  Claim w = resultAnswer (made w r q) s ≡ accepted (resulting done (r .code) (contentBy (r .command) (w .payload) q))
+
+  -- each row's answer holds what the row reads
+  row-content : Claim (rowOf (r .command))
+  row-content =
+      lookup-all (λ (w : Row). w .command) (λ (w : Row). w) otherRow Claim table (r .command)
+      ((λ e. rw e)
+      also (λ e. rw e)
+      also ap accepted (plain done))
+
+  pub case-content : (o : Outcome) → resultAnswer (caseFor o r q) s ≡ accepted (resulting o (r .code) (contentBy (r .command) (payloadFor o (r .command)) q))
+  case-content done = row-content
+  case-content waiting = ap accepted (plain waiting)
+  case-content failed = ap accepted (plain failed)
+
+-- ---- the reader
+-- a packet that none of 18, 19 and 23 refuses
+result-content : (p : List ℕ) → firstBroken (resultRules p) ≡ 0 → resultAnswer (outcomeOf (resultAt p) (drop 7 p)) p ≡ accepted (resultContent p)
 result-content p e =
-    let h = held (resultRules p) (tt, (tt, tt)) e in
+    let h = held (resultRules p) (tt, (tt, (tt, tt))) e in
     let l = eqb-true (length p) (7 + num 2 5 p) (not-false _ (h .0)) in
-    case-content (codeMeans (num 2 3 p)) (resultAt p) p ∙ rw (part-end p 7 (omega arith))
+    case-content (resultAt p) p (drop 7 p) (part-end p 7 (omega arith)) (codeMeans (num 2 3 p))
 
 -- the reader's promise, from the equation by cases
 pub reads-result : (p : List ℕ) {r : ResultRead} → r ≡ readResult p → ReadsResult p r
@@ -35,7 +78,14 @@ reads-result p e =
     record {
       content =
           ap (λ (r : ResultRead). resultAnswer r p) e
-          ∙ judge-map (λ (r : ResultRead). resultAnswer r p) Refused refused (resultRules p) (outcomeOf (resultAt p)) (accepted (resultContent p))
+          ∙ judge-map (λ (r : ResultRead). resultAnswer r p) Refused refused (resultRules p) (outcomeOf (resultAt p) (drop 7 p)) (accepted (resultContent p))
           (λ n. refl) (result-content p);
       answer = e;
     }
+
+-- masks and an uptime come of no packet but a done one of their command, which holds just these numbers
+pub presence-only : (p : List ℕ) (r : PresenceResult) → readResult p ≡ Presence r → resultContent p ≡ resulting done (r .code) (content 72 (maskValues (r .masks)) [])
+presence-only p r e = accepted-is (firstBroken (resultRules p)) (sym (reads-result p (sym e) .content))
+
+pub uptime-only : (p : List ℕ) (r : UptimeResult) → readResult p ≡ Uptime r → resultContent p ≡ resulting done (r .code) (content 80 (r .uptime .0 ∷ []) [])
+uptime-only p r e = accepted-is (firstBroken (resultRules p)) (sym (reads-result p (sym e) .content))

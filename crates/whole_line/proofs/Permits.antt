@@ -85,6 +85,10 @@ cases =
     ∷ encrypted (control 13 []) (content 10 (13 ∷ []) [])
     ∷ inPlain Setup false (control 20 (100 ∷ [])) (content 10 (20 ∷ 100 ∷ []) [])
     ∷ encrypted (control 21 (2 ∷ 7 ∷ 100 ∷ 8 ∷ 0 ∷ [])) (content 10 (21 ∷ 2 ∷ []) ((7 ∷ 100 ∷ 8 ∷ 0 ∷ []) ∷ []))
+    ∷ encrypted (control 70 (2 ∷ 1 ∷ 3 ∷ 4 ∷ 197 ∷ 5 ∷ 6 ∷ 7 ∷ 8 ∷ 160 ∷ 5 ∷ [])) (content 10 (70 ∷ 258 ∷ 3 ∷ 4 ∷ 197 ∷ 5 ∷ 526086 ∷ 1440 ∷ []) [])
+    ∷ inPlain Normal false (control 71 (2 ∷ 1 ∷ 3 ∷ 6 ∷ 7 ∷ 8 ∷ 60 ∷ [])) (content 10 (71 ∷ 258 ∷ 3 ∷ 526086 ∷ 60 ∷ []) [])
+    ∷ inPlain Normal false (control 72 []) (content 10 (72 ∷ []) [])
+    ∷ encrypted (control 80 []) (content 10 (80 ∷ []) [])
     ∷ []
 
 -- what is asked of an item, as one test

@@ -18,6 +18,9 @@ returns-4 c = rw (c .before .before .before .before .m4 .given .1) (c .pack4 .en
 returns-5 : tie.Need-returns-5
 returns-5 c = rw (c .before .enum-told .given .1) (c .pack5 .ensures)
 
+returns-6 : tie.Need-returns-6
+returns-6 c = rw (c .before .before .m5 .given .1) (c .packed-command .ensures)
+
 returns-7 : tie.Need-returns-7
 returns-7 c = rw (c .before .before .before .before .m6 .given .1) (c .pack6 .ensures)
 
@@ -49,5 +52,5 @@ packed-message-spec =
     returns-3
     returns-4
     returns-5
-    (λ c. search needs)
+    returns-6
     returns-7)

@@ -48,12 +48,32 @@ returns-13 : tie.Need-returns-13
 returns-13 c = let g = c .before .before .before .before .args in rw (c .before .before .match .keys13) (row-read (rowOf 21) (g .q .now) (g .mode) (g .access) refl (c .before .multi-switch .ensures) (c .by-mark13 .ensures))
 
 returns-14 : tie.Need-returns-14
-returns-14 c = rw (lookup-past (λ (r : Row). r .number) (λ (r : Row). r) noRow table [] (c .before .before .args .number) (c .match .rest))
+returns-14 c = let g = c .before .before .before .before .args in rw (c .before .before .match .keys14) (row-read (rowOf 70) (g .q .now) (g .mode) (g .access) refl (c .before .register-tracked-device .ensures) (c .by-mark14 .ensures))
+
+returns-15 : tie.Need-returns-15
+returns-15 c = let g = c .before .before .before .before .args in rw (c .before .before .match .keys15) (row-read (rowOf 71) (g .q .now) (g .mode) (g .access) refl (c .before .tracked-device-heartbeat .ensures) (c .by-mark15 .ensures))
+
+returns-16 : tie.Need-returns-16
+returns-16 c = let g = c .before .before .before .before .args in rw (c .before .before .match .keys16) (row-read (rowOf 72) (g .q .now) (g .mode) (g .access) refl (c .before .none7 .ensures) (c .by-mark16 .ensures))
+
+returns-17 : tie.Need-returns-17
+returns-17 c = let g = c .before .before .before .before .args in rw (c .before .before .match .keys17) (row-read (rowOf 80) (g .q .now) (g .mode) (g .access) refl (c .before .none8 .ensures) (c .by-mark17 .ensures))
+
+returns-18 : tie.Need-returns-18
+returns-18 c = rw (lookup-past (λ (r : Row). r .number) (λ (r : Row). r) noRow table [] (c .before .before .args .number) (c .match .rest))
 
 pub read-row-spec : {M : Type 1} → statement M
 read-row-spec =
     tie.close
     (tie.spec
+    (λ c κs. search needs)
+    (λ c κs. search needs)
+    (λ c κs. search needs)
+    (λ c κs. search needs)
+    (λ c κs. search needs)
+    (λ c κs. search needs)
+    (λ c κs. search needs)
+    (λ c κs. search needs)
     (λ c κs. search needs)
     (λ c κs. search needs)
     (λ c κs. search needs)
@@ -93,4 +113,8 @@ read-row-spec =
     returns-11
     returns-12
     returns-13
-    returns-14)
+    returns-14
+    returns-15
+    returns-16
+    returns-17
+    returns-18)

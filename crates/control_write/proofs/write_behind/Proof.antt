@@ -42,10 +42,30 @@ returns-12 c = rw (c .before .before .before .before .before .c5 .given .1) (c .
 returns-13 : tie.Need-returns-13
 returns-13 c = rw (c .before .before .before .before .before .c6 .given .1) (c .before .before .multi-switch .ensures)
 
+returns-14 : tie.Need-returns-14
+returns-14 c = rw (c .before .before .before .before .before .c7 .given .1) (c .before .before .register-tracked-device .ensures)
+
+returns-15 : tie.Need-returns-15
+returns-15 c = rw (c .before .before .before .before .before .c8 .given .1) (c .before .before .tracked-device-heartbeat .ensures)
+
+returns-16 : tie.Need-returns-16
+returns-16 c = rw (c .before .before .before .before .enum-told8 .given .1) (c .before .before .none7 .ensures)
+
+returns-17 : tie.Need-returns-17
+returns-17 c = rw (c .before .before .before .before .enum-told9 .given .1) (c .before .before .none8 .ensures)
+
 pub write-behind-spec : {M : Type 1} → statement M
 write-behind-spec =
     tie.close
     (tie.spec
+    (λ c. search needs)
+    (λ c κs. search needs)
+    (λ c. search needs)
+    (λ c κs. search needs)
+    (λ c. search needs)
+    (λ c κs. search needs)
+    (λ c. search needs)
+    (λ c κs. search needs)
     (λ c. search needs)
     (λ c κs. search needs)
     (λ c. search needs)
@@ -97,4 +117,12 @@ write-behind-spec =
     (λ c. search needs)
     returns-12
     (λ c. search needs)
-    returns-13)
+    returns-13
+    (λ c. search needs)
+    returns-14
+    (λ c. search needs)
+    returns-15
+    (λ c. search needs)
+    returns-16
+    (λ c. search needs)
+    returns-17)

@@ -4,6 +4,7 @@ use native.Mathlib.Omega.{arith}
 use lib.ListN.{length}
 use borrow.Author.Tests.{eq-eqb, ne-eqb}
 use Rattle.wire.specs.Numbers.{num}
+use Rattle.wire.proofs.Fields.{to-end}
 use Rattle.result.proofs.Meaning.{reads-result}
 use borrow.Author.Needs.{needs}
 use Rattle.result.proofs.read_result.Statement.{statement}
@@ -23,8 +24,10 @@ returns-3 c =
 
 returns-4 : tie.Need-returns-4
 returns-4 c =
-    reads-result (c .before .before .before .before .before .before .before .before .before .args .packet .now)
-    (simp (eq-eqb _ _ (rw (c .before .before .before .before .before .before .read-u16 .ensures .0) at (c .before .before .before .before .before .if2 .left)), eq-eqb _ _ (c .before .before .before .if3 .left)) (rw (c .before .before .read-u162 .ensures .0, c .before .read-u163 .ensures .0) at (c .outcome-of .ensures)))
+    let p = c .before .before .before .before .before .before .before .before .before .before .args .packet .now in
+    reads-result p
+    (simp (eq-eqb _ _ (rw (c .before .before .before .before .before .before .before .read-u16 .ensures .0) at (c .before .before .before .before .before .before .if2 .left)), eq-eqb _ _ (c .before .before .before .before .if3 .left))
+    (rw (c .before .before .before .read-u162 .ensures .0, c .before .before .read-u163 .ensures .0, to-end p 7) at (c .read-payload .ensures)))
 
 pub read-result-spec : {M : Type 1} → statement M
 read-result-spec =
@@ -39,6 +42,9 @@ read-result-spec =
     returns-3
     (λ c κs. search needs)
     (λ c κs. search needs)
+    (λ c. search needs)
+    (λ c. search needs)
+    (λ c. search needs)
     (λ c. search needs)
     (λ c κs. search needs)
     returns-4)
