@@ -17,7 +17,7 @@ use Rattle.text.specs.Ascii.{ascii}
 use Rattle.text.specs.Puts.{Puts}
 use Rattle.text.specs.Digits.{decimal, decimals}
 use Rattle.text.proofs.Puts.{puts-none, puts-then, puts-same}
-use Rattle.content_text.specs.Content.{partText, partTexts, countingParts, signedText, offsetText, Lists}
+use Rattle.content_text.specs.Content.{partText, partTexts, countingParts, rssiText, offsetText, Lists}
 use Rattle.content_text.specs.declared.Numbers.{Numbers}
 use Rattle.content_text.specs.declared.Parts.{Parts}
 use Rattle.content_text.specs.declared.Offset.{Offset}
@@ -42,11 +42,11 @@ module _ (p : Parts) {at q : ℕ} {room mid : List ℕ} (x : Puts (partText (p .
   two-of h k y = rw (take-all (p .0) (p .1 ∷ p .2 ∷ []) (omega arith)) (puts-then x (no-part y))
 
 -- ---- a signed number, by its byte
-pub from-zero : (z : ℤ) → SFits w8 z → unsigned z < 128 → ascii " offset " ++ decimal (unsigned z) ≡ signedText z
+pub from-zero : (z : ℤ) → SFits w8 z → unsigned z < 128 → ascii " offset " ++ decimal (unsigned z) ≡ rssiText z
 from-zero (pos n) h k = refl
 from-zero (negsuc n) h k = absurd (omega (arith, h .sfits))
 
-pub below-zero : (z : ℤ) → SFits w8 z → 128 ≤ unsigned z → ascii " offset -" ++ decimal (256 - unsigned z) ≡ signedText z
+pub below-zero : (z : ℤ) → SFits w8 z → 128 ≤ unsigned z → ascii " offset -" ++ decimal (256 - unsigned z) ≡ rssiText z
 below-zero (pos n) h k = absurd (omega (arith, h .sfits))
 below-zero (negsuc n) h k = ap (λ (m : ℕ). ascii " offset -" ++ decimal m) (omega arith)
 

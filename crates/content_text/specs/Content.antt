@@ -57,13 +57,13 @@ messageOffset (message.Control c) = commandOffset c
 messageOffset (message.HubReply f) = Absent
 
 -- with a minus sign where it is below 0
-abbrev pub signedText : ℤ → List ℕ
-signedText (pos n) = ascii " offset " ++ decimal n
-signedText (negsuc n) = ascii " offset -" ++ decimal (suc n)
+abbrev pub rssiText : ℤ → List ℕ
+rssiText (pos n) = ascii " offset " ++ decimal n
+rssiText (negsuc n) = ascii " offset -" ++ decimal (suc n)
 
 abbrev pub offsetText : Offset → List ℕ
 offsetText Absent = []
-offsetText (Rssi z) = signedText z
+offsetText (Rssi z) = rssiText z
 
 abbrev pub commandText : Command → List ℕ
 commandText c = decimals (commandNumber c ∷ commandValues c) ++ (offsetText (commandOffset c) ++ partTexts (commandParts c))

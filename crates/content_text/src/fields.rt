@@ -8,7 +8,7 @@ use control::TrackedDeviceFields;
 use message::Message;
 use wire::Part;
 ghost use mathlib.Core.Path.{_≡_};
-ghost use mathlib.Core.List.{_∷_};
+ghost use mathlib.Core.List.{_∷_, []};
 ghost use Rattle.control.specs.Command.{commandNumber, commandValues, commandParts};
 ghost use Rattle.control.specs.declared.Command.the-variants.{RegisterTrackedDevice, TrackedDeviceHeartbeat};
 ghost use Rattle.message.specs.Message.{messageType, messageValues, messageParts};
@@ -20,18 +20,8 @@ pub fn command_numbers(c: Command) -> Numbers
     match c {
         Command::Setup(f) => Numbers(3, [0, f.stone as u64, f.sphere as u64, 0, 0, 0, 0, 0]),
         Command::FactoryReset => Numbers(2, [1, 0xDEADBEEF, 0, 0, 0, 0, 0, 0]),
-        Command::GetState(f) => {
-            Numbers(
-                5,
-                [2, f.kind as u64, f.id as u64, f.mode as u64, 0, 0, 0, 0],
-            )
-        }
-        Command::SetState(f) => {
-            Numbers(
-                5,
-                [3, f.kind as u64, f.id as u64, f.mode as u64, 0, 0, 0, 0],
-            )
-        }
+        Command::GetState(f) => state(2, f.kind, f.id, f.mode),
+        Command::SetState(f) => state(3, f.kind, f.id, f.mode),
         Command::BootloaderVersion => Numbers(1, [4, 0, 0, 0, 0, 0, 0, 0]),
         Command::UicrData => Numbers(1, [5, 0, 0, 0, 0, 0, 0, 0]),
         Command::IbeaconConfig(f) => {
@@ -60,6 +50,12 @@ pub fn command_numbers(c: Command) -> Numbers
         Command::GetPresence => Numbers(1, [72, 0, 0, 0, 0, 0, 0, 0]),
         Command::GetUptime => Numbers(1, [80, 0, 0, 0, 0, 0, 0, 0]),
     }
+}
+
+fn state(number: u64, kind: u16, id: u16, mode: u8) -> Numbers
+    ensures { λ r. ⌜ Lists r (number ∷ kind ∷ id ∷ mode ∷ 0 ∷ []) ⌝ }
+{
+    Numbers(5, [number, kind as u64, id as u64, mode as u64, 0, 0, 0, 0])
 }
 
 fn tracked_device(f: TrackedDeviceFields) -> Numbers

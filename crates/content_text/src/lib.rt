@@ -9,7 +9,7 @@ ghost use Prim.Native.Nat.{_≤_};
 ghost use lib.ListN.{length, take};
 ghost use Rattle.text.specs.Puts.{Puts};
 ghost use Rattle.text.specs.Digits.{decimals};
-ghost use Rattle.content_text.specs.Content.{partText, partTexts, countingParts, offsetText, signedText, commandText, messageText};
+ghost use Rattle.content_text.specs.Content.{partText, partTexts, countingParts, offsetText, rssiText, commandText, messageText};
 
 // Eight numbers, of which the first so many count.
 struct Numbers(usize, [u64; 8]);
@@ -60,12 +60,12 @@ fn put_offset(out: &mut [u8], at: usize, o: Offset) -> usize
 {
     match o {
         Offset::Absent => at,
-        Offset::Rssi(v) => put_signed(out, at, v),
+        Offset::Rssi(v) => put_rssi(out, at, v),
     }
 }
 
-fn put_signed(out: &mut [u8], at: usize, v: i8) -> usize
-    ensures { λ r. ⌜ Puts (signedText v) at (now (out .entry)) r (now (out .exit)) ⌝ }
+fn put_rssi(out: &mut [u8], at: usize, v: i8) -> usize
+    ensures { λ r. ⌜ Puts (rssiText v) at (now (out .entry)) r (now (out .exit)) ⌝ }
 {
     let b = wire::unsigned_of(v);
     if b < 128 {

@@ -1,4 +1,4 @@
--- What each command holds: document 01's number for it, the numbers in its fields, and the bytes of each part behind the fields.
+-- What each command holds: the documents' number for it, the numbers in its fields, and the bytes of each part behind the fields.
 use Prim.Native.Nat.{ℕ, _+_, _*_}
 use mathlib.Core.Bool.{_&&_}
 use mathlib.Core.List.{List, [], _∷_}

@@ -73,7 +73,7 @@ pub struct MultiSwitchFields {
     pub pairs: Part,
 }
 
-// A badge. Offset: of its RSSI from the standard; token: a number of three bytes; ttl: time to live.
+// Offset: from the standard signal strength (RSSI); token: a number of three bytes; ttl: the time to live.
 pub struct TrackedDeviceFields {
     pub device: u16,
     pub location: u8,

@@ -1,6 +1,6 @@
 -- How a command's writer judges: a law for each test. Assumes nothing.
-use mathlib.Core.Path.{_≡_, refl}
-use Prim.Native.Nat.{ℕ, _+_, _≤_, _<_}
+use mathlib.Core.Path.{_≡_, refl, ap}
+use Prim.Native.Nat.{ℕ, _+_, _%_, _≤_, _<_}
 use mathlib.Core.Bool.{Bool, true, false, _||_}
 use mathlib.Core.List.{List, [], _∷_, _++_}
 use native.Mathlib.Omega.{arith}
@@ -53,6 +53,10 @@ or-twice false false = refl
 pub within-all : (c : Command) (s : List ℕ) → commandBad c s ≡ badWithin 65535 c s
 within-all c s =
     or-twice (unreadable (rowFor c .payload) (commandValues c) (commandParts c) (commandParts (reread c s)) s) (ltb 65535 (length (payloadImage c s)))
+
+-- a token's three bytes
+pub token-bytes : (v : ℕ) → v < 16777216 → le 3 (v % 16777216) ≡ le 3 v
+token-bytes v h = ap (le 3) (omega arith)
 
 -- ---- a packet of fields and two slices
 module _ (limit n : ℕ) (front fields a b room : List ℕ) where

@@ -7,6 +7,9 @@ use native.Mathlib.Omega.{arith}
 use lib.ListN.{length, take}
 use lib.Seq.{take-at, drop-at}
 use lib.Dec.{eqb, ltb}
+use lib.IntN.{ℤ}
+use mir.Syntax.{w8}
+use mir.Val.{SFits}
 use borrow.Author.Tests.{eqb-true, not-false}
 use Rattle.wire.specs.Numbers.{num}
 use Rattle.wire.specs.Rules.{firstBroken, verdict}
@@ -19,12 +22,14 @@ use Rattle.wire.proofs.Choice.{and-holds, or-fails}
 use Rattle.wire.proofs.Content.{same-content}
 use Rattle.wire.proofs.Held.{held}
 use Rattle.wire.proofs.Fields.{Readable, readable, part-length}
+use Rattle.wire.proofs.Signed.{signed-unsigned}
 use Rattle.wire.proofs.Writers.{wrote-back}
 use Rattle.access.specs.declared.Mode.{Mode}
 use Rattle.access.specs.declared.Access.{Access}
 use Rattle.control.specs.Command.{commandNumber, commandValues, commandParts, commandBytes}
-use Rattle.control.specs.Table.{rowOf}
-use Rattle.control.specs.Control.{markRules, controlRules, commandAt}
+use Rattle.control.specs.Table.{AMB, rowOf}
+use Rattle.control.specs.Control.{markRules, controlRules, commandOf, commandAt, readControl}
+use Rattle.control.specs.declared.TrackedDeviceFields.{TrackedDeviceFields}
 use Rattle.control.specs.declared.Command.{Command}
 use Rattle.control.specs.declared.Command.the-variants.{Setup, FactoryReset, GetState, SetState, BootloaderVersion, UicrData, IbeaconConfig, Reset, GotoDfu, NoOperation, Disconnect, Switch, MultiSwitch, RegisterTrackedDevice, TrackedDeviceHeartbeat, GetPresence, GetUptime}
 use Rattle.control.specs.declared.ControlRead.the-variants.{Accepted, Refused}
@@ -115,6 +120,20 @@ module _ (c : Command) (s : List ℕ) (m : Mode) (a : Access) (good : commandBad
             ∙ same-content refl (made .values) (ap (tailParts (l .tail)) (made .behind) ∙ parts-apart c s (made .within) (made .alike));
         answer = ap (λ (n : ℕ). verdict Refused n (Accepted (commandAt p))) unbroken;
       }
+
+  -- the command that is read is the one that its row makes of the written numbers
+  pub reread-is : commandAt (controlImage c s) ≡ reread c s
+  reread-is =
+      let q = payloadImage c s in
+      ap (λ (k : ℕ). commandOf (rowOf k) q) (number-back (commandNumber c) q) ∙ ap (λ (vs : List ℕ). rowFor c .make vs (length q)) (made .values)
+
+-- a tracked device is read as it was given, its offset signed
+pub device-back : (f : TrackedDeviceFields) (s : List ℕ) (m : Mode) (a : Access) → SFits w8 (f .offset) → commandBad (RegisterTrackedDevice f) s ≡ false
+    → firstBroken (markRules AMB m a) ≡ 0 → readControl (controlImage (RegisterTrackedDevice f) s) m a ≡ Accepted (RegisterTrackedDevice f)
+device-back f s m a fits good may =
+    let c = RegisterTrackedDevice f in
+    reads-back c s m a good may .answer ∙ ap Accepted (reread-is c s m a good may)
+    ∙ ap (λ (z : ℤ). Accepted (RegisterTrackedDevice (record { device = f .device; location = f .location; profile = f .profile; offset = z; flags = f .flags; token = f .token; ttl = f .ttl }))) (signed-unsigned (f .offset) fits)
 
 -- what stands at the front of the room, when the writer answers that it wrote
 pub wrote-reads : (c : Command) (s room after : List ℕ) (r : Written) (n : ℕ) (m : Mode) (a : Access)

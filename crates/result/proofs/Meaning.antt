@@ -1,11 +1,13 @@
 -- A result that was read holds what its packet holds. Assumes nothing.
 use mathlib.Core.Path.{_≡_, refl, sym, ap, _∙_}
-use Prim.Native.Nat.{ℕ, _+_, _-_}
-use mathlib.Core.Bool.{true, false}
+use Prim.Native.Nat.{ℕ, _+_}
+use mathlib.Core.Bool.{Bool, true, false, _||_}
 use mathlib.Core.List.{List, [], _∷_}
 use native.Mathlib.Omega.{arith}
 use lib.ListN.{length, drop}
-use borrow.Author.Tests.{eqb-true, le-ltb, not-false}
+use lib.Dec.{eqb}
+use borrow.Author.Tests.{eqb-true, ne-eqb, le-ltb, not-false}
+use Rattle.wire.specs.Choice.{pick}
 use Rattle.wire.specs.Numbers.{num}
 use Rattle.wire.specs.Parts.{partOf}
 use Rattle.wire.specs.Rules.{firstBroken}
@@ -24,19 +26,22 @@ use Rattle.result.specs.declared.UptimeResult.{UptimeResult}
 use Rattle.result.specs.declared.ResultRead.{ResultRead}
 use Rattle.result.specs.declared.ResultRead.the-variants.{Presence, Uptime, Refused}
 
--- the one outcome that is done
+-- ---- outcomes
 pub is-done : (o : Outcome) → isDone o ≡ true → o ≡ done
 is-done done e = refl
 is-done waiting e = true-false (sym e)
 is-done failed e = true-false (sym e)
 
--- ---- payloads
--- the length of a payload is asked about where the result is done, and not elsewhere
-pub when-done : (o : Outcome) (n : ℕ) (q : List ℕ) → isDone o ≡ true → wrongSize (payloadFor o n .size) q ≡ wrongSize (payloadFor done n .size) q
-when-done done n q e = refl
-when-done waiting n q e = true-false (sym e)
-when-done failed n q e = true-false (sym e)
+-- a code that means neither done nor waiting means failed
+pub else-failed : (code : ℕ) → isDone (codeMeans code) ≡ false → (code ≡ 1 → ⊥) → codeMeans code ≡ failed
+else-failed code e k = first (eqb code 0 || eqb code 2) e ∙ rw (ne-eqb code 1 k)
+  where
+    first : (t : Bool) {o : Outcome} → isDone (pick t done o) ≡ false → pick t done o ≡ o
+    first true d = true-false d
+    first false d = refl
 
+-- ---- payloads
+-- the length of a payload that is not a done result's is not asked about
 pub when-not : (o : Outcome) (n : ℕ) (q : List ℕ) → isDone o ≡ false → wrongSize (payloadFor o n .size) q ≡ false
 when-not done n q e = true-false e
 when-not waiting n q e = le-ltb (length q) 0 (omega arith)
@@ -44,8 +49,8 @@ when-not failed n q e = le-ltb (length q) 0 (omega arith)
 
 -- each case holds what the payload's bytes q hold, where the result's part names them in s
 module _ (r : ResultPacket) (s q : List ℕ) (named : partOf s (r .payload) ≡ q) where
-  plain : (o : Outcome) → resulting o (r .code) (content (r .command) [] (partOf s (r .payload) ∷ [])) ≡ resulting o (r .code) (contentBy (r .command) anything q)
-  plain o = ap (λ (b : List ℕ). resulting o (r .code) (content (r .command) [] (b ∷ []))) named
+  as-part : (o : Outcome) → resulting o (r .code) (content (r .command) [] (partOf s (r .payload) ∷ [])) ≡ resulting o (r .code) (contentBy (r .command) anything q)
+  as-part o = ap (λ (b : List ℕ). resulting o (r .code) (content (r .command) [] (b ∷ []))) named
 
   -- what is claimed of a row
   abbrev Claim : Row → Type 0
@@ -57,12 +62,12 @@ module _ (r : ResultPacket) (s q : List ℕ) (named : partOf s (r .payload) ≡ 
       lookup-all (λ (w : Row). w .command) (λ (w : Row). w) otherRow Claim table (r .command)
       ((λ e. rw e)
       also (λ e. rw e)
-      also ap accepted (plain done))
+      also ap accepted (as-part done))
 
   pub case-content : (o : Outcome) → resultAnswer (caseFor o r q) s ≡ accepted (resulting o (r .code) (contentBy (r .command) (payloadFor o (r .command)) q))
   case-content done = row-content
-  case-content waiting = ap accepted (plain waiting)
-  case-content failed = ap accepted (plain failed)
+  case-content waiting = ap accepted (as-part waiting)
+  case-content failed = ap accepted (as-part failed)
 
 -- ---- the reader
 -- a packet that none of 18, 19 and 23 refuses

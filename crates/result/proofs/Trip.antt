@@ -18,21 +18,20 @@ use Rattle.wire.proofs.Choice.{or-fails}
 use Rattle.wire.proofs.Fields.{Readable, readable, part-length, part-end}
 use Rattle.wire.proofs.Writers.{wrote-back}
 use Rattle.result.specs.Result.{Outcome, done, codeMeans, isDone, rowOf, payloadFor, payloadOf, maskValues, resulting, resultAnswer, caseFor, outcomeOf, resultAt, readResult}
-use Rattle.result.specs.Image.{resultBytes, resultBad, resultImage, fieldsBad, fieldsImage, moved, ReadsBack, FieldsBack}
+use Rattle.result.specs.Image.{resultBytes, resultBad, resultImage, fieldsBad, fieldsImage, presenceBad, presenceImage, uptimeBad, uptimeImage, moved, ReadsBack, FieldsBack, PresenceBack, UptimeBack}
 use Rattle.result.proofs.Meaning.{is-done, case-content}
 use Rattle.result.specs.declared.ResultPacket.{ResultPacket}
 use Rattle.result.specs.declared.PresenceResult.{PresenceResult}
 use Rattle.result.specs.declared.UptimeResult.{UptimeResult}
 use Rattle.result.specs.declared.ResultRead.{ResultRead}
-use Rattle.result.specs.declared.ResultRead.the-variants.{Presence, Uptime}
 
 -- ---- a packet around any payload
 module _ (n code : ℕ) (q : List ℕ) where
   -- the result that stands in it
-  abbrev held : ResultPacket
-  held = record { command = n; code = code; payload = part 7 (length q) }
+  abbrev placed : ResultPacket
+  placed = record { command = n; code = code; payload = part 7 (length q) }
 
-  at : resultAt (resultBytes n code q) ≡ held
+  at : resultAt (resultBytes n code q) ≡ placed
   at =
       let p = resultBytes n code q in
       let e1 : num 2 1 p ≡ n = omega arith in
@@ -40,11 +39,9 @@ module _ (n code : ℕ) (q : List ℕ) where
       let e3 : length p - 7 ≡ length q = omega arith in
       rw (e1, e2, e3)
 
-  answered : wrongSize (payloadOf n code .size) q ≡ false → readResult (resultBytes n code q) ≡ outcomeOf held q
+  answered : wrongSize (payloadOf n code .size) q ≡ false → readResult (resultBytes n code q) ≡ outcomeOf placed q
   answered h =
       let p = resultBytes n code q in
-      let e1 : num 2 1 p ≡ n = omega arith in
-      let e2 : num 2 3 p ≡ code = omega arith in
       let k : wrongSize (payloadOf (num 2 1 p) (num 2 3 p) .size) q ≡ false = ap (λ (r : ResultPacket). wrongSize (payloadOf (r .command) (r .code) .size) q) at ∙ h in
       rw (eq-eqb (length p) (7 + num 2 5 p) (omega arith), k) (ap (λ (r : ResultPacket). outcomeOf r q) at)
 
@@ -69,29 +66,30 @@ module _ (n code : ℕ) (vs : List ℕ) (good : fieldsBad n code vs ≡ false) w
   abbrev body : List ℕ
   body = bodyOf (payloadFor done n) vs [] []
 
+  judged : (not (isDone (codeMeans code)) ≡ false) × (unreadable (payloadFor done n) vs [] [] [] ≡ false)
+  judged = or-fails (not (isDone (codeMeans code))) (unreadable (payloadFor done n) vs [] [] []) good
+
   means : codeMeans code ≡ done
-  means = is-done (codeMeans code) (not-false _ (or-fails (not (isDone (codeMeans code))) (unreadable (payloadFor done n) vs [] [] []) good .0))
+  means = is-done (codeMeans code) (not-false _ (judged .0))
 
   fits : Readable (payloadFor done n) vs [] [] []
-  fits = readable (payloadFor done n) vs [] [] [] (or-fails (not (isDone (codeMeans code))) (unreadable (payloadFor done n) vs [] [] []) good .1)
+  fits = readable (payloadFor done n) vs [] [] [] (judged .1)
 
-  row-back : readResult (fieldsImage n code vs) ≡ rowOf n .make (held n code body) vs
+  row-back : readResult (fieldsImage n code vs) ≡ rowOf n .make (placed n code body) vs
   row-back =
       answered n code body (ap (λ (o : Outcome). wrongSize (payloadFor o n .size) body) means ∙ fits .sized)
-      ∙ ap (λ (o : Outcome). caseFor o (held n code body) body) means
-      ∙ ap (rowOf n .make (held n code body)) (fits .values)
+      ∙ ap (λ (o : Outcome). caseFor o (placed n code body) body) means
+      ∙ ap (rowOf n .make (placed n code body)) (fits .values)
 
   -- the answer that the row makes
-  fields-back : {given : ResultRead} → rowOf n .make (held n code body) vs ≡ given
+  fields-back : {given : ResultRead} → rowOf n .make (placed n code body) vs ≡ given
       → resultAnswer given (fieldsImage n code vs) ≡ accepted (resulting done code (content n vs [])) → FieldsBack n code vs given (fieldsImage n code vs)
   fields-back e c = record { content = ap (λ (x : ResultRead). resultAnswer x (fieldsImage n code vs)) (row-back ∙ e) ∙ c; answer = row-back ∙ e }
 
-pub presence-back : (r : PresenceResult) → fieldsBad 72 (r .code) (maskValues (r .masks)) ≡ false
-    → FieldsBack 72 (r .code) (maskValues (r .masks)) (Presence r) (fieldsImage 72 (r .code) (maskValues (r .masks)))
+pub presence-back : (r : PresenceResult) → presenceBad r ≡ false → PresenceBack r (presenceImage r)
 presence-back r good = fields-back 72 (r .code) (maskValues (r .masks)) good refl refl
 
-pub uptime-back : (r : UptimeResult) → fieldsBad 80 (r .code) (r .uptime .0 ∷ []) ≡ false
-    → FieldsBack 80 (r .code) (r .uptime .0 ∷ []) (Uptime r) (fieldsImage 80 (r .code) (r .uptime .0 ∷ []))
+pub uptime-back : (r : UptimeResult) → uptimeBad r ≡ false → UptimeBack r (uptimeImage r)
 uptime-back r good = fields-back 80 (r .code) (r .uptime .0 ∷ []) good refl refl
 
 -- ---- what stands at the front of the room, when a writer answers that it wrote
@@ -99,11 +97,8 @@ module _ (n : ℕ) {room : List ℕ} {answer : Written} {after : List ℕ} where
   pub wrote-reads : (r : ResultPacket) (s : List ℕ) → Writes (resultBad r s) (resultImage r s) room answer after → answer ≡ Wrote n → ReadsBack r s (take n after)
   wrote-reads r s w e = wrote-back (ReadsBack r s) (reads-back r s) n w e
 
-  pub wrote-presence : (r : PresenceResult)
-      → Writes (fieldsBad 72 (r .code) (maskValues (r .masks))) (fieldsImage 72 (r .code) (maskValues (r .masks))) room answer after → answer ≡ Wrote n
-      → FieldsBack 72 (r .code) (maskValues (r .masks)) (Presence r) (take n after)
-  wrote-presence r w e = wrote-back (FieldsBack 72 (r .code) (maskValues (r .masks)) (Presence r)) (presence-back r) n w e
+  pub wrote-presence : (r : PresenceResult) → Writes (presenceBad r) (presenceImage r) room answer after → answer ≡ Wrote n → PresenceBack r (take n after)
+  wrote-presence r w e = wrote-back (PresenceBack r) (presence-back r) n w e
 
-  pub wrote-uptime : (r : UptimeResult) → Writes (fieldsBad 80 (r .code) (r .uptime .0 ∷ [])) (fieldsImage 80 (r .code) (r .uptime .0 ∷ [])) room answer after
-      → answer ≡ Wrote n → FieldsBack 80 (r .code) (r .uptime .0 ∷ []) (Uptime r) (take n after)
-  wrote-uptime r w e = wrote-back (FieldsBack 80 (r .code) (r .uptime .0 ∷ []) (Uptime r)) (uptime-back r) n w e
+  pub wrote-uptime : (r : UptimeResult) → Writes (uptimeBad r) (uptimeImage r) room answer after → answer ≡ Wrote n → UptimeBack r (take n after)
+  wrote-uptime r w e = wrote-back (UptimeBack r) (uptime-back r) n w e

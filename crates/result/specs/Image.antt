@@ -9,9 +9,12 @@ use Rattle.wire.specs.Numbers.{le}
 use Rattle.wire.specs.Content.{accepted, content}
 use Rattle.wire.specs.Parts.{part, partOf}
 use Rattle.wire.specs.Fields.{wrongSize, past, bodyOf, unreadable}
-use Rattle.result.specs.Result.{done, codeMeans, isDone, payloadFor, payloadOf, payloadContent, resulting, resultAnswer, outcomeOf, readResult}
+use Rattle.result.specs.Result.{done, codeMeans, isDone, payloadFor, payloadOf, payloadContent, resulting, maskValues, resultAnswer, outcomeOf, readResult}
 use Rattle.result.specs.declared.ResultPacket.{ResultPacket}
+use Rattle.result.specs.declared.PresenceResult.{PresenceResult}
+use Rattle.result.specs.declared.UptimeResult.{UptimeResult}
 use Rattle.result.specs.declared.ResultRead.{ResultRead}
+use Rattle.result.specs.declared.ResultRead.the-variants.{Presence, Uptime}
 
 -- protocol, command type, result code, size, payload
 abbrev pub resultBytes : ℕ → ℕ → List ℕ → List ℕ
@@ -35,6 +38,18 @@ fieldsBad n code vs = not (isDone (codeMeans code)) || unreadable (payloadFor do
 abbrev pub fieldsImage : ℕ → ℕ → List ℕ → List ℕ
 fieldsImage n code vs = resultBytes n code (bodyOf (payloadFor done n) vs [] [])
 
+abbrev pub presenceBad : PresenceResult → Bool
+presenceBad r = fieldsBad 72 (r .code) (maskValues (r .masks))
+
+abbrev pub presenceImage : PresenceResult → List ℕ
+presenceImage r = fieldsImage 72 (r .code) (maskValues (r .masks))
+
+abbrev pub uptimeBad : UptimeResult → Bool
+uptimeBad r = fieldsBad 80 (r .code) (r .uptime .0 ∷ [])
+
+abbrev pub uptimeImage : UptimeResult → List ℕ
+uptimeImage r = fieldsImage 80 (r .code) (r .uptime .0 ∷ [])
+
 -- ---- reading what was written gives what it holds
 -- a payload's bytes, now a part of the packet
 abbrev pub moved : ResultPacket → ResultPacket
@@ -50,3 +65,9 @@ pub record FieldsBack (n code : ℕ) (vs : List ℕ) (given : ResultRead) (p : L
   pub content : resultAnswer (readResult p) p ≡ accepted (resulting done code (content n vs []))
   -- the answer by the cases of the enum
   pub answer : readResult p ≡ given
+
+abbrev pub PresenceBack : PresenceResult → List ℕ → Type 0
+PresenceBack r p = FieldsBack 72 (r .code) (maskValues (r .masks)) (Presence r) p
+
+abbrev pub UptimeBack : UptimeResult → List ℕ → Type 0
+UptimeBack r p = FieldsBack 80 (r .code) (r .uptime .0 ∷ []) (Uptime r) p

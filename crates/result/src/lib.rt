@@ -5,10 +5,9 @@ use units::Seconds;
 use wire::Part;
 use wire::Written;
 ghost use mathlib.Core.Path.{_≡_};
-ghost use mathlib.Core.List.{_∷_, []};
 ghost use Rattle.wire.specs.Writing.{Writes};
-ghost use Rattle.result.specs.Result.{done, maskValues, caseFor, outcomeOf, readPayload, ReadsResult};
-ghost use Rattle.result.specs.Image.{resultBad, resultImage, fieldsBad, fieldsImage};
+ghost use Rattle.result.specs.Result.{done, caseFor, outcomeOf, readPayload, ReadsResult};
+ghost use Rattle.result.specs.Image.{resultBad, resultImage, presenceBad, presenceImage, uptimeBad, uptimeImage};
 
 // The command that is answered, its result code, and the payload as a part of the packet, or of the bytes lent to the writer.
 pub struct ResultPacket {
@@ -68,12 +67,13 @@ fn outcome_of(result: ResultPacket, q: &[u8]) -> ResultRead
     ensures { λ r. ⌜ r ≡ outcomeOf result (now (q .entry)) ⌝ }
 {
     let code = result.code;
-    match code {
-        0 => done_of(result, q),
-        1 => ResultRead::Waiting(result),
-        2 => done_of(result, q),
-        _ => ResultRead::Failed(result),
+    if payloads::means_done(code) {
+        return done_of(result, q);
     }
+    if code == 1 {
+        return ResultRead::Waiting(result);
+    }
+    ResultRead::Failed(result)
 }
 
 // A result and its payload's bytes: 23, or what came of the command.
@@ -129,7 +129,7 @@ pub fn write_result(result: ResultPacket, bytes: &[u8], out: &mut [u8]) -> Writt
 
 // A done result of get presence: 17 for a code that does not mean done.
 pub fn write_presence(result: PresenceResult, out: &mut [u8]) -> Written
-    ensures { λ r. ⌜ Writes (fieldsBad 72 (result .code) (maskValues (result .masks))) (fieldsImage 72 (result .code) (maskValues (result .masks))) (now (out .entry)) r (now (out .exit)) ⌝ }
+    ensures { λ r. ⌜ Writes (presenceBad result) (presenceImage result) (now (out .entry)) r (now (out .exit)) ⌝ }
 {
     let m = result.masks;
     if payloads::means_done(result.code) {
@@ -147,7 +147,7 @@ pub fn write_presence(result: PresenceResult, out: &mut [u8]) -> Written
 
 // A done result of get uptime: 17 for a code that does not mean done, and for more seconds than four bytes hold.
 pub fn write_uptime(result: UptimeResult, out: &mut [u8]) -> Written
-    ensures { λ r. ⌜ Writes (fieldsBad 80 (result .code) (result .uptime .0 ∷ [])) (fieldsImage 80 (result .code) (result .uptime .0 ∷ [])) (now (out .entry)) r (now (out .exit)) ⌝ }
+    ensures { λ r. ⌜ Writes (uptimeBad result) (uptimeImage result) (now (out .entry)) r (now (out .exit)) ⌝ }
 {
     let uptime = result.uptime;
     if 4294967295 < uptime.0 {

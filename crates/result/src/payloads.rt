@@ -23,7 +23,6 @@ pub fn means_done(code: u16) -> bool
 {
     match code {
         0 => true,
-        1 => false,
         2 => true,
         _ => false,
     }
@@ -87,7 +86,7 @@ pub fn head(command: u16, code: u16, size: u16) -> [u8; 7]
     [5, n[0], n[1], c[0], c[1], z[0], z[1]]
 }
 
-// The bytes of two masks.
+// The bytes of two masks, and that eight bytes hold each.
 pub fn two_masks(a: u64, b: u64) -> [u8; 16]
     ensures { λ r. ⌜ (r ≡ le 8 a ++ le 8 b) × ((a < 18446744073709551616) × (b < 18446744073709551616)) ⌝ }
 {

@@ -19,13 +19,12 @@ and-holds true b e = (refl, e)
 and-holds false b e = true-false (sym e)
 
 -- one holds, or one fails
-pub or-true : (a : Bool) → (a || true) ≡ true
-or-true true = refl
-or-true false = refl
-
 pub or-right : (a b : Bool) → b ≡ true → (a || b) ≡ true
 or-right true b e = refl
 or-right false b e = e
+
+pub or-true : (a : Bool) → (a || true) ≡ true
+or-true a = or-right a true refl
 
 pub and-false : (a : Bool) → (a && false) ≡ false
 and-false true = refl

@@ -41,12 +41,6 @@ le-num s h (suc (suc w)) at k =
     high : (b m : ℕ) → b < 256 → (b + 256 * m) / 256 ≡ m
     high b m h = omega arith
 
--- the low bytes of a number that they hold
-pub le-low : (w v : ℕ) → v < 256 ^ w → take w (le (suc w) v) ≡ le w v
-le-low zero v h = refl
-le-low (suc zero) v h = let e : v % 256 ≡ v = omega arith in rw e
-le-low (suc (suc w)) v h = ap (λ (t : List ℕ). v % 256 ∷ t) (le-low (suc w) (v / 256) (omega (arith, pow-suc 256 (suc w))))
-
 -- past the end stands 0
 pub num-past : (w at : ℕ) (s : List ℕ) → length s ≤ at → num w at s ≡ 0
 num-past zero at s h = refl

@@ -23,9 +23,9 @@ signed-unsigned (pos n) h = rw (lt-ltb n 128 (h .sfits))
 signed-unsigned (negsuc n) h = rw (le-ltb (255 - n) 128 (omega (arith, h .sfits)), le-ltb 255 (255 - n) (omega arith)) (ap negsuc (omega (arith, h .sfits)))
 
 -- ---- what the code computes
--- a number that fits keeps its value in the machine's bits
-kept : (n : ℕ) → n < 128 → toZ w8 (ofZ w8 (pos n)) ≡ pos n
-kept n h = toZ-ofZ w8 (pos n) (record { sfits = h })
+-- the byte of a number that fits, taken from its bits
+pub byte-kept : (z : ℤ) → SFits w8 z → unsigned (toZ w8 (ofZ w8 z)) ≡ unsigned z
+byte-kept z h = ap unsigned (toZ-ofZ w8 z h)
 
 -- -1 less a number
 from-minus-one : (n : ℕ) → negsuc 0 -ℤ pos n ≡ negsuc n
@@ -68,7 +68,7 @@ negative z h e =
     record {
       small = h .sfits;
       fits = subst (λ (y : ℤ). SFits w8 y) (sym d) (record { sfits = h .sfits });
-      distance = ap (λ (y : ℤ). toZ w8 (ofZ w8 y)) d ∙ kept (mag z) (h .sfits);
+      distance = ap (λ (y : ℤ). toZ w8 (ofZ w8 y)) d ∙ toZ-ofZ w8 (pos (mag z)) (record { sfits = h .sfits });
       byte = k .1;
     }
 

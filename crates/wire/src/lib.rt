@@ -3,8 +3,8 @@ pub mod layouts;
 
 ghost use mathlib.Core.Path.{_≡_};
 ghost use mathlib.Core.List.{_++_, _∷_, []};
-ghost use Prim.Native.Nat.{_+_, _≤_, _<_};
-ghost use lib.ListN.{length, getD, take};
+ghost use Prim.Native.Nat.{_+_, _%_, _≤_, _<_};
+ghost use lib.ListN.{length, getD};
 ghost use lib.Seq.{sets};
 ghost use Rattle.wire.specs.Numbers.{num, le};
 ghost use Rattle.wire.specs.Parts.{partOf};
@@ -146,12 +146,16 @@ pub fn u16_bytes(v: u16) -> [u8; 2]
     [(v % 256) as u8, (v / 256) as u8]
 }
 
-// The low three of a number's bytes, low byte first.
+// The low three bytes of a number, low byte first.
 pub fn u24_bytes(v: u32) -> [u8; 3]
-    ensures { λ r. ⌜ r ≡ take 3 (le 4 v) ⌝ }
+    ensures { λ r. ⌜ r ≡ le 3 (v % 16777216) ⌝ }
 {
-    let b = u32_bytes(v);
-    [b[0], b[1], b[2]]
+    let low = v % 16777216;
+    [
+        (low % 256) as u8,
+        (low / 256 % 256) as u8,
+        (low / 256 / 256) as u8,
+    ]
 }
 
 // The four bytes of a number, low byte first.

@@ -8,7 +8,7 @@ use Rattle.wire.proofs.signed_of.Statement.{statement}
 use Rattle.wire.proofs.signed_of.Tie as tie
 
 returns : tie.Need-returns
-returns c = rw (lt-ltb _ _ (c .if1 .taken))
+returns c = rw (lt-ltb (c .before .args .b) 128 (c .if1 .taken))
 
 sub-result-2 : tie.Need-sub-result-2
 sub-result-2 c = less-fits (255 - c .before .args .b) (omega arith)

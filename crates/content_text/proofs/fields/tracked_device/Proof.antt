@@ -1,8 +1,6 @@
 -- `tracked_device` meets its contract. Assumes nothing.
-use mathlib.Core.Path.{refl, ap, _∙_}
-use mir.Syntax.{w8}
-use mir.ValLaws.{toZ-ofZ}
-use Rattle.wire.specs.Signed.{unsigned}
+use mathlib.Core.Path.{refl, _∙_}
+use Rattle.wire.proofs.Signed.{byte-kept}
 use Rattle.content_text.proofs.Content.{counted}
 use borrow.Author.Needs.{needs}
 use Rattle.content_text.proofs.fields.tracked_device.Statement.{statement}
@@ -10,8 +8,8 @@ use Rattle.content_text.proofs.fields.tracked_device.Tie as tie
 
 returns : tie.Need-returns
 returns c =
-    let kept = toZ-ofZ w8 (c .before .before .before .before .before .before .before .before .args .f .offset) (record { sfits = c .before .before .before .struct-told .given .1 .1 .1 .0 .1 }) in
-    rw (c .before .before .unsigned-of .ensures ∙ ap unsigned kept) (counted _ refl)
+    let kept = byte-kept (c .before .before .before .before .before .before .before .before .args .f .offset) (record { sfits = c .before .before .before .struct-told .given .1 .1 .1 .0 .1 }) in
+    rw (c .before .before .unsigned-of .ensures ∙ kept) (counted _ refl)
 
 pub tracked-device-spec : {M : Type 1} → statement M
 tracked-device-spec =

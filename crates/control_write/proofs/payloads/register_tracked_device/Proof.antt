@@ -1,16 +1,14 @@
 -- `register_tracked_device` meets its contract. Assumes nothing.
-use mathlib.Core.Path.{refl, ap, _∙_}
+use mathlib.Core.Path.{refl, _∙_}
 use native.Mathlib.Omega.{arith}
 use mir.Syntax.{w8}
 use mir.Val.{SFits}
-use mir.ValLaws.{toZ-ofZ}
 use borrow.Author.Tests.{lt-ltb, le-ltb}
 use Rattle.wire.specs.Signed.{unsigned}
-use Rattle.wire.proofs.Numbers.{le-low}
-use Rattle.wire.proofs.Signed.{byte-fits}
+use Rattle.wire.proofs.Signed.{byte-fits, byte-kept}
 use Rattle.wire.proofs.Writers.{writes-bad, writes-as}
 use Rattle.control.specs.declared.Command.the-variants.{RegisterTrackedDevice}
-use Rattle.control_write.proofs.Refusing.{bad-unfit, long-only}
+use Rattle.control_write.proofs.Refusing.{bad-unfit, long-only, token-bytes}
 use borrow.Author.Needs.{needs}
 use Rattle.control_write.proofs.payloads.register_tracked_device.Statement.{statement}
 use Rattle.control_write.proofs.payloads.register_tracked_device.Tie as tie
@@ -28,9 +26,9 @@ returns-2 c =
 returns-3 : tie.Need-returns-3
 returns-3 c =
     let g = c .before .before .before .before .before .before .before .before .before .before .before .before .before .before .before .before .before .before .before .before .args in
-    let token = c .before .before .before .before .before .before .before .u24-bytes .ensures ∙ le-low 3 (g .f .token) (omega arith) in
+    let token = c .before .before .before .before .before .before .before .u24-bytes .ensures ∙ token-bytes (g .f .token) (omega arith) in
     let fits : SFits w8 (g .f .offset) = search needs in
-    let offset = c .before .before .before .before .before .before .before .before .unsigned-of .ensures ∙ ap unsigned (toZ-ofZ w8 (g .f .offset) fits) in
+    let offset = c .before .before .before .before .before .before .before .before .unsigned-of .ensures ∙ byte-kept (g .f .offset) fits in
     writes-as
     (long-only (g .limit) (RegisterTrackedDevice (g .f)) (g .bytes .now) refl
     (simp (

@@ -2,10 +2,9 @@
 use mathlib.Core.Path.{refl, _∙_}
 use native.Mathlib.Omega.{arith}
 use borrow.Author.Tests.{lt-ltb, le-ltb}
-use Rattle.wire.proofs.Numbers.{le-low}
 use Rattle.wire.proofs.Writers.{writes-bad, writes-as}
 use Rattle.control.specs.declared.Command.the-variants.{TrackedDeviceHeartbeat}
-use Rattle.control_write.proofs.Refusing.{bad-unfit, bad-fields, long-only}
+use Rattle.control_write.proofs.Refusing.{bad-unfit, bad-fields, long-only, token-bytes}
 use borrow.Author.Needs.{needs}
 use Rattle.control_write.proofs.payloads.tracked_device_heartbeat.Statement.{statement}
 use Rattle.control_write.proofs.payloads.tracked_device_heartbeat.Tie as tie
@@ -23,7 +22,7 @@ returns-2 c =
 returns-3 : tie.Need-returns-3
 returns-3 c =
     let g = c .before .before .before .before .before .before .before .before .before .before .before .before .before .before .before .before .before .args in
-    let token = c .before .before .before .before .before .before .u24-bytes .ensures ∙ le-low 3 (g .f .token) (omega arith) in
+    let token = c .before .before .before .before .before .before .u24-bytes .ensures ∙ token-bytes (g .f .token) (omega arith) in
     writes-as
     (long-only (g .limit) (TrackedDeviceHeartbeat (g .f)) (g .bytes .now) refl
     (simp (
