@@ -62,7 +62,7 @@ fn done_of(result: ResultPacket, q: &[u8]) -> ResultRead
     }
 }
 
-// What a result's code means.
+// What came of the command, by the result's code.
 fn outcome_of(result: ResultPacket, q: &[u8]) -> ResultRead
     ensures { λ r. ⌜ r ≡ outcomeOf result (now (q .entry)) ⌝ }
 {
