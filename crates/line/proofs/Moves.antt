@@ -139,7 +139,7 @@ module _ (low got size count : ℕ) (h5 : 5 ≤ size) (h512 : size ≤ 512) (hg 
   below-limit : count + 1 < 1029
   below-limit = omega arith
 
-  reading-busy : (e : Bool) (n : ℕ) → n < 1029 → busy (reading e low got size n) ≡ true
+  pub reading-busy : (e : Bool) (n : ℕ) → n < 1029 → busy (reading e low got size n) ≡ true
   unfolding busy midFrame
   reading-busy e n h = simp (le-leb _ _ h5, le-leb _ _ h512, lt-ltb _ _ hg, lt-ltb _ _ h)
 

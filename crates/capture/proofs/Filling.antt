@@ -1,0 +1,199 @@
+-- Entries and payloads of the events that are found, one behind the other. Assumes nothing.
+use mathlib.Core.Path.{_≡_, refl, sym, ap, _∙_, subst}
+use mathlib.Core.List.{List, [], _∷_, _++_, append-assoc, append-nil, map, flatten}
+use Prim.Native.Nat.{ℕ, _+_, _*_, _≤_}
+use native.Mathlib.Omega.{arith}
+use lib.ListN.{length, drop, set, length-append, drop-of-length-le}
+use lib.Seq.{sets, length-sets}
+use borrow.Author.Tests.{le-ltb}
+use Rattle.wire.specs.Writing.{Stores, noRoom}
+use Rattle.wire.proofs.Lists.{sets-then}
+use Rattle.wire.proofs.Writing.{sets-placed}
+use Rattle.wire.specs.declared.Written.{Written}
+use Rattle.line.specs.Receive.{framePayload}
+use Rattle.line.specs.Line.{emitted}
+use Rattle.line.specs.declared.Event.{Event}
+use Rattle.line.specs.declared.Event.the-variants.{Nothing, Frame, Refused}
+use Rattle.capture.specs.Capture.{Found, foundAt, foundFrom, decoded}
+use Rattle.capture.specs.Entry.{packed, entry, payloadLength}
+use Rattle.capture.specs.Decoding.{entriesIn, entriesOf, payloadOf, payloadsIn, payloadsOf}
+use Rattle.capture.specs.Looking.{Fits, Looks, seenIn, eventCount, Room, PutsEvent, CountsOf}
+use Rattle.capture.specs.declared.ahead.Seen.{Seen}
+
+pub entries-append : (fs gs : List Found) → entriesIn (fs ++ gs) ≡ entriesIn fs ++ entriesIn gs
+entries-append [] gs = refl
+entries-append (f ∷ fs) gs = ap (λ (z : List ℕ). entry f ∷ z) (entries-append fs gs)
+
+pub payloads-append : (fs gs : List Found) → payloadsIn (fs ++ gs) ≡ payloadsIn fs ++ payloadsIn gs
+unfolding flatten
+payloads-append [] gs = refl
+payloads-append (f ∷ fs) gs = ap (λ (z : List ℕ). payloadOf f ++ z) (payloads-append fs gs) ∙ sym (append-assoc (payloadOf f) (payloadsIn fs) (payloadsIn gs))
+
+-- ---- what an event adds
+events-at : ℕ → Event → List ℕ → List Found
+events-at offset e store = map (foundAt offset) (emitted e store)
+
+entry-count : (offset : ℕ) (e : Event) (store : List ℕ) → length (entriesIn (events-at offset e store)) ≡ eventCount e
+unfolding events-at
+entry-count offset Nothing store = refl
+entry-count offset (Frame major minor wrapper len) store = refl
+entry-count offset (Refused n place) store = refl
+
+payload-count : (offset : ℕ) (e : Event) (store : List ℕ) → Fits e store → length (payloadsIn (events-at offset e store)) ≡ payloadLength e
+unfolding events-at flatten
+payload-count offset Nothing store h = refl
+payload-count offset (Frame major minor wrapper len) store h = ap length (append-nil (framePayload len store)) ∙ h .1
+payload-count offset (Refused n place) store h = refl
+
+-- ---- what is seen, and what stands behind it
+module _ {s : List ℕ} {from : ℕ} {seen : Seen} {store : List ℕ} (h : Looks s from seen store) where
+  abbrev rest : List Found
+  rest = foundFrom (seen .next) (drop (seen .next) s)
+
+  pub entries-are : entriesIn (foundFrom from (drop from s)) ≡ entriesIn (seenIn seen store) ++ entriesIn rest
+  entries-are = ap entriesIn (h .events) ∙ entries-append (seenIn seen store) rest
+
+  pub payloads-are : payloadsIn (foundFrom from (drop from s)) ≡ payloadsIn (seenIn seen store) ++ payloadsIn rest
+  payloads-are = ap payloadsIn (h .events) ∙ payloads-append (seenIn seen store) rest
+
+  pub entries-seen : length (entriesIn (seenIn seen store)) ≡ eventCount (seen .event)
+  unfolding events-at
+  entries-seen = entry-count (seen .offset) (seen .event) store
+
+  pub payloads-seen : length (payloadsIn (seenIn seen store)) ≡ payloadLength (seen .event)
+  unfolding events-at
+  payloads-seen = payload-count (seen .offset) (seen .event) store (h .fits)
+
+  -- how many are left
+  pub entries-left : length (entriesIn (foundFrom from (drop from s))) ≡ eventCount (seen .event) + length (entriesIn rest)
+  entries-left = ap length entries-are ∙ length-append (entriesIn (seenIn seen store)) (entriesIn rest) ∙ ap (λ (k : ℕ). k + length (entriesIn rest)) entries-seen
+
+  pub payloads-left : length (payloadsIn (foundFrom from (drop from s))) ≡ payloadLength (seen .event) + length (payloadsIn rest)
+  payloads-left = ap length payloads-are ∙ length-append (payloadsIn (seenIn seen store)) (payloadsIn rest) ∙ ap (λ (k : ℕ). k + length (payloadsIn rest)) payloads-seen
+
+-- a payload has at most 507 bytes
+length-of : (e : Event) (store : List ℕ) → Fits e store → payloadLength e ≤ 507
+length-of Nothing store h = omega arith
+length-of (Frame major minor wrapper len) store h = h .0
+length-of (Refused n place) store h = omega arith
+
+pub length-limit : {s : List ℕ} {from : ℕ} {seen : Seen} {store : List ℕ} → Looks s from seen store → payloadLength (seen .event) ≤ 507
+length-limit {seen = seen} {store} h = length-of (seen .event) store (h .fits)
+
+-- at the end nothing is left
+pub none-left : (s : List ℕ) (i : ℕ) → length s ≤ i → foundFrom i (drop i s) ≡ []
+unfolding foundFrom
+none-left s i h = ap (foundFrom i) (drop-of-length-le s h)
+
+-- ---- going through a capture
+-- up to an offset: how many entries and payload bytes there were, with those that are left
+pub record Left (s : List ℕ) (i entries bytes : ℕ) : Type 0 where
+  pub within : i ≤ length s
+  pub entries-low : entries ≤ i
+  pub bytes-low : bytes ≤ 507 * i
+  pub entries-all : entries + length (entriesIn (foundFrom i (drop i s))) ≡ length (entriesOf s)
+  pub bytes-all : bytes + length (payloadsIn (foundFrom i (drop i s))) ≡ length (payloadsOf s)
+
+pub left-start : (s : List ℕ) → Left s 0 0 0
+left-start s = record { within = omega arith; entries-low = omega arith; bytes-low = omega arith; entries-all = omega arith; bytes-all = omega arith }
+
+pub left-next : {s : List ℕ} {i entries bytes : ℕ} {seen : Seen} {store : List ℕ} {n m : ℕ} → Left s i entries bytes → Looks s i seen store
+    → (n ≡ eventCount (seen .event)) × (n ≤ 1) → m ≡ payloadLength (seen .event) → Left s (seen .next) (entries + n) (bytes + m)
+left-next l h n m =
+    record {
+      within = h .within;
+      entries-low = omega (arith, l .entries-low, h .forward, n .1);
+      bytes-low = omega (arith, l .bytes-low, h .forward, m, length-limit h);
+      entries-all = omega (arith, l .entries-all, n .0, entries-left h);
+      bytes-all = omega (arith, l .bytes-all, m, payloads-left h);
+    }
+
+pub left-end : {s : List ℕ} {i entries bytes : ℕ} → Left s i entries bytes → length s ≤ i → CountsOf s (record { entries = entries; bytes = bytes })
+unfolding flatten
+left-end {s} {i} l u =
+    let e = none-left s i u in
+    record { entries = omega (arith, l .entries-all, ap length (ap entriesIn e)); bytes = omega (arith, l .bytes-all, ap length (ap payloadsIn e)) }
+
+-- what is in the list and in the buffer; what is left, put behind it, makes the whole
+pub record Filled (s : List ℕ) (i : ℕ) (list₀ list : List ℕ) (entries : ℕ) (buffer₀ buffer : List ℕ) (bytes : ℕ) : Type 0 where
+  pub lists : sets list entries (entriesIn (foundFrom i (drop i s))) ≡ sets list₀ 0 (entriesOf s)
+  pub stores : sets buffer bytes (payloadsIn (foundFrom i (drop i s))) ≡ sets buffer₀ 0 (payloadsOf s)
+  pub list-long : length list ≡ length list₀
+  pub buffer-long : length buffer ≡ length buffer₀
+
+pub filled-next : {s : List ℕ} {i : ℕ} {list₀ list : List ℕ} {entries : ℕ} {buffer₀ buffer : List ℕ} {bytes : ℕ} {seen : Seen} {store list′ buffer′ : List ℕ} {n m : ℕ}
+    → Filled s i list₀ list entries buffer₀ buffer bytes → Looks s i seen store → PutsEvent (seenIn seen store) list entries buffer bytes list′ buffer′
+    → n ≡ eventCount (seen .event) → m ≡ payloadLength (seen .event) → Filled s (seen .next) list₀ list′ (entries + n) buffer₀ buffer′ (bytes + m)
+filled-next {s} {i} {list₀} {list} {entries} {buffer₀} {buffer} {bytes} {seen} {store} {list′} {buffer′} {n} {m} f h p en em =
+    let rest : List Found = foundFrom (seen .next) (drop (seen .next) s) in
+    record {
+      lists =
+          ap (λ (z : List ℕ). sets z (entries + n) (entriesIn rest)) (p .lists)
+          ∙ sets-then (entriesIn (seenIn seen store)) (entriesIn rest) list entries (entries + n) (omega (arith, entries-seen h, en))
+          ∙ ap (sets list entries) (sym (entries-are h))
+          ∙ f .lists;
+      stores =
+          ap (λ (z : List ℕ). sets z (bytes + m) (payloadsIn rest)) (p .stores)
+          ∙ sets-then (payloadsIn (seenIn seen store)) (payloadsIn rest) buffer bytes (bytes + m) (omega (arith, payloads-seen h, em))
+          ∙ ap (sets buffer bytes) (sym (payloads-are h))
+          ∙ f .stores;
+      list-long = ap length (p .lists) ∙ length-sets list entries (entriesIn (seenIn seen store)) ∙ f .list-long;
+      buffer-long = ap length (p .stores) ∙ length-sets buffer bytes (payloadsIn (seenIn seen store)) ∙ f .buffer-long;
+    }
+
+pub filled-end : {s : List ℕ} {i : ℕ} {list₀ list : List ℕ} {entries : ℕ} {buffer₀ buffer : List ℕ} {bytes : ℕ} → Filled s i list₀ list entries buffer₀ buffer bytes
+    → length s ≤ i → PutsEvent (decoded s) list₀ 0 buffer₀ 0 list buffer
+unfolding flatten
+filled-end {s} {i} {list = list} {entries} {buffer = buffer} {bytes} f u =
+    let e = none-left s i u in
+    record {
+      lists = ap (λ (fs : List Found). sets list entries (entriesIn fs)) (sym e) ∙ f .lists;
+      stores = ap (λ (fs : List Found). sets buffer bytes (payloadsIn fs)) (sym e) ∙ f .stores;
+    }
+
+-- there is room for the next event
+pub room-there : {s : List ℕ} {i : ℕ} {list₀ list : List ℕ} {entries : ℕ} {buffer₀ buffer : List ℕ} {bytes : ℕ} {seen : Seen} {store : List ℕ}
+    → Left s i entries bytes → Filled s i list₀ list entries buffer₀ buffer bytes → Looks s i seen store
+    → length (entriesOf s) ≤ length list₀ → length (payloadsOf s) ≤ length buffer₀ → Room (seen .event) store list entries buffer bytes
+room-there l f h u v =
+    record {
+      fits = h .fits;
+      lists = omega (arith, l .entries-all, entries-left h, f .list-long);
+      stores = omega (arith, l .bytes-all, payloads-left h, f .buffer-long);
+    }
+
+-- ---- what is put, where the event is known
+module _ (seen : Seen) (store list : List ℕ) (entries : ℕ) (buffer : List ℕ) (bytes : ℕ) where
+  abbrev Puts : Event → List ℕ → List ℕ → Type 0
+  Puts e = PutsEvent (map (foundAt (seen .offset)) (emitted e store)) list entries buffer bytes
+
+  puts-as : (e : Event) (list′ buffer′ : List ℕ) → seen .event ≡ e → Puts e list′ buffer′ → Puts (seen .event) list′ buffer′
+  puts-as e list′ buffer′ q h = subst (λ (x : Event). Puts x list′ buffer′) (sym q) h
+
+  -- the room for it
+  pub room-as : (e : Event) → seen .event ≡ e → Room (seen .event) store list entries buffer bytes → Room e store list entries buffer bytes
+  room-as e q h = subst (λ (x : Event). Room x store list entries buffer bytes) q h
+
+  pub puts-nothing : seen .event ≡ Nothing → PutsEvent (seenIn seen store) list entries buffer bytes list buffer
+  unfolding flatten
+  puts-nothing q = puts-as Nothing list buffer q (record { lists = refl; stores = refl })
+
+  pub puts-refusal : (n place : ℕ) {x : ℕ} → seen .event ≡ Refused n place → x ≡ packed n place 0 0 0 (seen .offset)
+      → PutsEvent (seenIn seen store) list entries buffer bytes (set list entries x) buffer
+  unfolding flatten
+  puts-refusal n place {x} q e = puts-as (Refused n place) (set list entries x) buffer q (record { lists = ap (set list entries) e; stores = refl })
+
+  pub puts-frame : (major minor wrapper len : ℕ) {x : ℕ} {payload buffer′ : List ℕ} {answer : Written} → seen .event ≡ Frame major minor wrapper len
+      → x ≡ packed 5 len major minor wrapper (seen .offset) → payload ≡ framePayload len store → bytes + length payload ≤ length buffer
+      → Stores (noRoom bytes payload buffer ∷ []) bytes payload buffer answer buffer′
+      → PutsEvent (seenIn seen store) list entries buffer bytes (set list entries x) buffer′
+  unfolding flatten
+  puts-frame major minor wrapper len {x} {payload} {buffer′} q e p r w =
+      puts-as (Frame major minor wrapper len) (set list entries x) buffer′ q
+      (record {
+        lists = ap (set list entries) e;
+        stores =
+            rw (le-ltb _ _ r) at (w .leaves)
+            ∙ sym (sets-placed bytes payload buffer r)
+            ∙ ap (sets buffer bytes) (p ∙ sym (append-nil (framePayload len store)));
+      })

@@ -1,0 +1,11 @@
+pub mod Frames
+pub mod Agreement
+pub mod Unescaping
+pub mod Reaching
+pub mod Starts
+pub mod Telling
+pub mod Finding
+pub mod Packing
+pub mod Filling
+pub mod Rooms
+pub mod Judging

@@ -1,0 +1,25 @@
+-- `look` meets its contract. Assumes nothing.
+use borrow.Author.Needs.{needs}
+use Rattle.capture.proofs.Finding.{looks-nothing, looks-told}
+use Rattle.capture.proofs.ahead.look.Statement.{statement}
+use Rattle.capture.proofs.ahead.look.Tie as tie
+
+returns : tie.Need-returns
+returns c =
+    let b = c .before .before in
+    looks-nothing (b .before .before .pre) (b .next-start .ensures) (c .before .if1 .taken) (c .nothing .ensures)
+
+returns-2 : tie.Need-returns-2
+returns-2 c =
+    let b = c .before .before .before in
+    looks-told (b .before .before .pre) (b .next-start .ensures) (c .before .before .if1 .left) (c .behind-start .ensures)
+
+pub look-spec : {M : Type 1} → statement M
+look-spec =
+    tie.close
+    (tie.spec
+    (λ c κs. search needs)
+    (λ c κs. search needs)
+    returns
+    (λ c κs. search needs)
+    returns-2)

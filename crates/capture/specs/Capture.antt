@@ -1,0 +1,56 @@
+-- What a capture holds, found by looking ahead: document 02 §8.
+use Prim.Native.Nat.{ℕ, _+_, _-_}
+use mathlib.Core.Path.{_≡_, refl}
+use mathlib.Core.List.{List, [], _∷_, _++_, map}
+use lib.ListN.{take, drop, getD}
+use lib.Dec.{eqb}
+use Rattle.wire.specs.Choice.{pick}
+use Rattle.wire.specs.Numbers.{num}
+use Rattle.crc.specs.Crc.{crcOf}
+use Rattle.line.specs.Receive.{within}
+use Rattle.line.specs.Line.{Emitted, refusal, frame}
+use Rattle.capture.specs.Ahead.{Ahead, whole, start, badEscape, end, ahead}
+
+-- what is found ahead of a place of a frame, its start byte counted as 1: 1 at a 7E, 2 at a bad escape, nothing at the end of the capture;
+-- else what the bytes give
+unfoldable pub found : ℕ → (ℕ → List ℕ → List ℕ → List Emitted) → Ahead → List Emitted
+found place give (whole n vs rest) = give (place + n) vs rest
+found place give (start n) = refusal 1 (place + n) ∷ []
+found place give (badEscape n) = refusal 2 (place + n) ∷ []
+found place give end = []
+
+-- all the bytes that the size counts: 4 where the CRC over major through payload differs
+unfoldable pub checked : ℕ → ℕ → List ℕ → List Emitted
+checked size place vs =
+    pick (eqb (crcOf (take (size - 2) vs)) (num 2 (size - 2) vs))
+    (frame (getD vs 0 0) (getD vs 1 0) (getD vs 2 0) (size - 5) (take (size - 5) (drop 3 vs)) ∷ [])
+    (refusal 4 place ∷ [])
+
+-- the size: 3 where it is below 5 or above 512; else the bytes that it counts are looked for
+unfoldable pub sized : ℕ → ℕ → List ℕ → List Emitted
+sized size place rest =
+    pick (within size)
+    (found place (λ place vs rest. checked size place vs) (ahead size rest))
+    (refusal 3 place ∷ [])
+
+-- what stands behind a start byte: the two bytes of the size are looked for
+unfoldable pub behindStart : List ℕ → List Emitted
+behindStart bs = found 1 (λ place vs rest. sized (num 2 0 vs) place rest) (ahead 2 bs)
+
+-- an event, and the offset of its start byte in the capture
+pub record Found : Type 0 where
+  pub offset : ℕ
+  pub event : Emitted
+
+abbrev pub foundAt : ℕ → Emitted → Found
+foundAt at e = record { offset = at; event = e }
+
+-- from an offset on, each 7E begins a frame. (What its event takes holds no other 7E, so it is all the same whether one goes on behind the
+-- 7E or behind the event.)
+unfoldable pub foundFrom : ℕ → List ℕ → List Found
+foundFrom at [] = []
+foundFrom at (b ∷ bs) = pick (eqb b 0x7E) (map (foundAt at) (behindStart bs)) [] ++ foundFrom (at + 1) bs
+
+-- the whole capture
+abbrev pub decoded : List ℕ → List Found
+decoded capture = foundFrom 0 capture

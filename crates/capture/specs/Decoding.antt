@@ -1,0 +1,63 @@
+-- What the decoder answers, and what it leaves in the lent list and buffer: document 02 §8.
+use Prim.Native.Nat.{ℕ, _≤_}
+use mathlib.Core.Path.{_≡_}
+use mathlib.Core.List.{List, [], _∷_, map, flatten}
+use lib.ListN.{length}
+use lib.Dec.{ltb}
+use Rattle.wire.specs.Rules.{Rule, _when_, judge}
+use Rattle.wire.specs.Content.{Judged, accepted, refused}
+use Rattle.wire.specs.Writing.{noRoom, placed}
+use Rattle.line.specs.Line.{Emitted, refusal, frame}
+use Rattle.capture.specs.Capture.{Found, decoded}
+use Rattle.capture.specs.Entry.{entry}
+use Rattle.capture.specs.declared.Decoded.{Decoded}
+use Rattle.capture.specs.declared.Decoded.the-variants.{Events, Refused}
+
+abbrev pub payloadOfEvent : Emitted → List ℕ
+payloadOfEvent (refusal n place) = []
+payloadOfEvent (frame major minor wrapper len payload) = payload
+
+-- one entry for each event, in order
+abbrev pub entriesIn : List Found → List ℕ
+entriesIn fs = map entry fs
+
+abbrev pub entriesOf : List ℕ → List ℕ
+entriesOf capture = entriesIn (decoded capture)
+
+-- the frames' payloads one behind the other
+abbrev pub payloadOf : Found → List ℕ
+payloadOf f = payloadOfEvent (f .event)
+
+abbrev pub payloadsIn : List Found → List ℕ
+payloadsIn fs = flatten (map payloadOf fs)
+
+abbrev pub payloadsOf : List ℕ → List ℕ
+payloadsOf capture = payloadsIn (decoded capture)
+
+-- 17 for a capture of more than 65,536 bytes, then 25 where the list or the buffer is shorter than the answer
+abbrev pub captureRules : List ℕ → List ℕ → List ℕ → List Rule
+captureRules capture list buffer =
+    (17 when ltb 65536 (length capture))
+    ∷ noRoom 0 (entriesOf capture) list
+    ∷ noRoom 0 (payloadsOf capture) buffer
+    ∷ []
+
+-- an answer's numbers: how many entries and how many payload bytes, or the refusal's
+abbrev pub decodedNumber : Decoded → Judged (List ℕ) ℕ
+decodedNumber (Events entries bytes) = accepted (entries ∷ bytes ∷ [])
+decodedNumber (Refused n) = refused n
+
+-- what the decoder promises
+pub record Decodes (capture list buffer : List ℕ) (answer : Decoded) (list′ buffer′ : List ℕ) : Type 0 where
+  pub number :
+      decodedNumber answer
+      ≡ judge refused (captureRules capture list buffer) (accepted (length (entriesOf capture) ∷ length (payloadsOf capture) ∷ []))
+  -- the answer by the cases of the enum
+  pub answers : answer ≡ judge Refused (captureRules capture list buffer) (Events (length (entriesOf capture)) (length (payloadsOf capture)))
+  -- a refusal leaves both as they were; every other number and byte stays
+  pub lists : list′ ≡ judge (λ n. list) (captureRules capture list buffer) (placed 0 (entriesOf capture) list)
+  pub stores : buffer′ ≡ judge (λ n. buffer) (captureRules capture list buffer) (placed 0 (payloadsOf capture) buffer)
+
+-- ---- how much room suffices: as many entries, and as many bytes, as the capture has bytes
+abbrev pub RoomsSuffice : Type 0
+RoomsSuffice = (capture : List ℕ) → (length (entriesOf capture) ≤ length capture) × (length (payloadsOf capture) ≤ length capture)

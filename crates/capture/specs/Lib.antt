@@ -1,0 +1,6 @@
+pub mod Ahead
+pub mod Capture
+pub mod Agreement
+pub mod Entry
+pub mod Decoding
+pub mod Looking

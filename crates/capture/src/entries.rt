@@ -1,0 +1,119 @@
+// Entries of the lent list: an event and the offset of its start byte as one number, and back.
+ghost use mathlib.Core.Path.{_≡_};
+ghost use Prim.Native.Nat.{_≤_, _<_};
+ghost use lib.ListN.{length, take};
+ghost use Rattle.capture.specs.Entry as specs;
+use line::Event;
+use wire::Part;
+
+fn packed(kind: u8, count: usize, major: u8, minor: u8, wrapper: u8, offset: usize) -> u64
+    requires { ⌜ (count < 65536) × (offset < 65536) ⌝ }
+    ensures { λ r. ⌜ r ≡ specs.packed kind count major minor wrapper offset ⌝ }
+{
+    let behind_minor = (wrapper as u64) + 256 * (offset as u64);
+    let behind_count = (major as u64) + 256 * ((minor as u64) + 256 * behind_minor);
+    (kind as u64) + 256 * ((count as u64) + 65536 * behind_count)
+}
+
+// A refusal's entry.
+pub fn refusal(number: u8, place: usize, offset: usize) -> u64
+    requires { ⌜ (place < 65536) × (offset < 65536) ⌝ }
+    ensures { λ r. ⌜ r ≡ specs.packed number place 0 0 0 offset ⌝ }
+{
+    packed(number, place, 0, 0, 0, offset)
+}
+
+// A frame's entry.
+pub fn frame(major: u8, minor: u8, wrapper: u8, len: usize, offset: usize) -> u64
+    requires { ⌜ (len < 65536) × (offset < 65536) ⌝ }
+    ensures { λ r. ⌜ r ≡ specs.packed 5 len major minor wrapper offset ⌝ }
+{
+    packed(5, len, major, minor, wrapper, offset)
+}
+
+// The event of an entry; none where its kind is neither a refusal's number nor a frame's.
+pub fn event_of(entry: u64) -> Event
+    ensures { λ e. ⌜ e ≡ specs.eventOf entry ⌝ }
+{
+    let kind = (entry % 256) as u8;
+    let count = (entry / 256 % 65536) as usize;
+    if kind == 5 {
+        return Event::Frame {
+            major: (entry / 16777216 % 256) as u8,
+            minor: (entry / 4294967296 % 256) as u8,
+            wrapper: (entry / 1099511627776 % 256) as u8,
+            len: count,
+        };
+    }
+    if kind < 1 {
+        return Event::Nothing;
+    }
+    if 4 < kind {
+        return Event::Nothing;
+    }
+    Event::Refused {
+        number: kind,
+        place: count,
+    }
+}
+
+// The offset of the event's start byte in the capture.
+pub fn offset_of(entry: u64) -> usize
+    ensures { λ r. ⌜ r ≡ specs.offsetOf entry ⌝ }
+{
+    (entry / 281474976710656) as usize
+}
+
+// How long an event's payload is.
+pub fn payload_length(e: Event) -> usize
+    ensures { λ r. ⌜ r ≡ specs.payloadLength e ⌝ }
+{
+    match e {
+        Event::Nothing => 0,
+        Event::Frame {
+            major: _,
+            minor: _,
+            wrapper: _,
+            len,
+        } => len,
+        Event::Refused {
+            number: _,
+            place: _,
+        } => 0,
+    }
+}
+
+// The payload bytes of the first `n` entries.
+fn payload_total(list: &[u64], n: usize) -> usize
+    requires { ⌜ (n ≤ length (now list)) × (n ≤ 65536) ⌝ }
+    ensures { λ r. ⌜ r ≡ specs.payloadTotal (take n (now (list .entry))) ⌝ }
+{
+    let mut total: usize = 0;
+    let mut i: usize = 0;
+    while i < n {
+        total += payload_length(event_of(list[i]));
+        i += 1;
+    }
+    total
+}
+
+// Where the payload of an entry, counted from 0, lies in the lent buffer: behind those of the entries before it. Empty for a refusal, for an
+// entry that is not there, and above 65,536, which no capture has.
+pub fn payload_part(list: &[u64], k: usize) -> Part
+    ensures { λ p. ⌜ p ≡ specs.payloadPart (now (list .entry)) k ⌝ }
+{
+    if 65536 < k {
+        return Part { start: 0, len: 0 };
+    }
+    if list.len() <= k {
+        return Part {
+            start: payload_total(list, list.len()),
+            len: 0,
+        };
+    }
+    let start = payload_total(list, k);
+    Part {
+        start,
+        len: payload_length(event_of(list[k])),
+    }
+}
