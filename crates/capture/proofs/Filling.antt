@@ -178,13 +178,13 @@ module _ (seen : Seen) (store list : List ℕ) (entries : ℕ) (buffer : List �
   unfolding flatten
   puts-nothing q = puts-as Nothing list buffer q (record { lists = refl; stores = refl })
 
-  pub puts-refusal : (n place : ℕ) {x : ℕ} → seen .event ≡ Refused n place → x ≡ packed n place 0 0 0 (seen .offset)
+  pub puts-refusal : (n place : ℕ) {x : ℕ} → seen .event ≡ Refused n place → x ≡ packed (n ∷ place ∷ 0 ∷ 0 ∷ 0 ∷ seen .offset ∷ [])
       → PutsEvent (seenIn seen store) list entries buffer bytes (set list entries x) buffer
   unfolding flatten
   puts-refusal n place {x} q e = puts-as (Refused n place) (set list entries x) buffer q (record { lists = ap (set list entries) e; stores = refl })
 
   pub puts-frame : (major minor wrapper len : ℕ) {x : ℕ} {payload buffer′ : List ℕ} {answer : Written} → seen .event ≡ Frame major minor wrapper len
-      → x ≡ packed 5 len major minor wrapper (seen .offset) → payload ≡ framePayload len store → bytes + length payload ≤ length buffer
+      → x ≡ packed (5 ∷ len ∷ major ∷ minor ∷ wrapper ∷ seen .offset ∷ []) → payload ≡ framePayload len store → bytes + length payload ≤ length buffer
       → Stores (noRoom bytes payload buffer ∷ []) bytes payload buffer answer buffer′
       → PutsEvent (seenIn seen store) list entries buffer bytes (set list entries x) buffer′
   unfolding flatten

@@ -9,3 +9,4 @@ pub mod Packing
 pub mod Filling
 pub mod Rooms
 pub mod Judging
+pub mod Reading

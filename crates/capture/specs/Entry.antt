@@ -1,46 +1,51 @@
 -- An event as an entry of the lent list, one number of 64 bits, and back.
-use Prim.Native.Nat.{ℕ, _+_, _*_, _/_, _%_}
+use Prim.Native.Nat.{ℕ, _+_}
 use mathlib.Core.Path.{_≡_, refl}
 use mathlib.Core.Bool.{_&&_}
 use mathlib.Core.List.{List, [], _∷_}
 use lib.ListN.{take, getD}
 use lib.Dec.{eqb, leb, ltb}
 use Rattle.wire.specs.Choice.{pick}
+use Rattle.wire.specs.Numbers.{num, le}
 use Rattle.wire.specs.Parts.{part}
+use Rattle.wire.specs.Fields.{Field, any, encode, valuesAt}
 use Rattle.wire.specs.declared.Part.{Part}
 use Rattle.line.specs.Line.{Emitted, refusal, frame}
 use Rattle.line.specs.declared.Event.{Event}
 use Rattle.line.specs.declared.Event.the-variants.{Nothing, Frame, Refused}
 use Rattle.capture.specs.Capture.{Found, foundAt}
 
--- from the low end: kind (8 bits), payload length or place (16), major, minor and wrapper type (8 each), offset of the start byte (16)
-abbrev pub packed : ℕ → ℕ → ℕ → ℕ → ℕ → ℕ → ℕ
-packed kind count major minor wrapper offset =
-    kind + 0x100 * (count + 0x10000 * (major + 0x100 * (minor + 0x100 * (wrapper + 0x100 * offset))))
+-- the fields of its eight bytes, low byte first: kind, payload length or place (2), major, minor, wrapper type, offset of the start byte (2)
+abbrev pub entryFields : List Field
+entryFields = any 1 ∷ any 2 ∷ any 1 ∷ any 1 ∷ any 1 ∷ any 2 ∷ []
 
 -- a refusal's kind is its number, 1 to 4; a frame's is 5
-abbrev pub entryAt : ℕ → Emitted → ℕ
-entryAt offset (refusal n place) = packed n place 0 0 0 offset
-entryAt offset (frame major minor wrapper len payload) = packed 5 len major minor wrapper offset
+abbrev pub entryValues : ℕ → Emitted → List ℕ
+entryValues offset (refusal n place) = n ∷ place ∷ 0 ∷ 0 ∷ 0 ∷ offset ∷ []
+entryValues offset (frame major minor wrapper len payload) = 5 ∷ len ∷ major ∷ minor ∷ wrapper ∷ offset ∷ []
+
+abbrev pub packed : List ℕ → ℕ
+packed values = num 8 0 (encode entryFields values)
 
 abbrev pub entry : Found → ℕ
-entry f = entryAt (f .offset) (f .event)
+entry f = packed (entryValues (f .offset) (f .event))
 
--- ---- back, from any number: no event where the kind is none of these
-abbrev pub kindOf : ℕ → ℕ
-kindOf n = n % 0x100
+-- ---- back, from any number
+abbrev pub valuesOf : ℕ → List ℕ
+valuesOf n = valuesAt entryFields 0 (le 8 n)
 
-abbrev pub countOf : ℕ → ℕ
-countOf n = n / 0x100 % 0x10000
+-- no event where the kind is neither a refusal's nor a frame's
+unfoldable pub eventBy : ℕ → List ℕ → Event
+eventBy kind values =
+    pick (eqb kind 5)
+    (Frame (getD values 2 0) (getD values 3 0) (getD values 4 0) (getD values 1 0))
+    (pick (leb 1 kind && leb kind 4) (Refused kind (getD values 1 0)) Nothing)
 
-unfoldable pub eventOf : ℕ → Event
-eventOf n =
-    pick (eqb (kindOf n) 5)
-    (Frame (n / 0x1000000 % 0x100) (n / 0x100000000 % 0x100) (n / 0x10000000000 % 0x100) (countOf n))
-    (pick (leb 1 (kindOf n) && leb (kindOf n) 4) (Refused (kindOf n) (countOf n)) Nothing)
+abbrev pub eventOf : ℕ → Event
+eventOf n = eventBy (getD (valuesOf n) 0 0) (valuesOf n)
 
 abbrev pub offsetOf : ℕ → ℕ
-offsetOf n = n / 0x1000000000000
+offsetOf n = getD (valuesOf n) 5 0
 
 -- ---- where payloads lie in the lent buffer, one behind the other
 abbrev pub payloadLength : Event → ℕ
@@ -66,5 +71,5 @@ example-refusal : entry (foundAt 12 (refusal 3 3)) ≡ 0x000C000000000303
 example-refusal = refl
 
 example-event : eventOf 0x0006000001000305 ≡ Frame 1 0 0 3
-unfolding eventOf
+unfolding eventBy
 example-event = refl

@@ -3,4 +3,5 @@ pub mod Capture
 pub mod Agreement
 pub mod Entry
 pub mod Decoding
+pub mod Reading
 pub mod Looking

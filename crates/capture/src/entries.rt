@@ -1,24 +1,27 @@
 // Entries of the lent list: an event and the offset of its start byte as one number, and back.
 ghost use mathlib.Core.Path.{_≡_};
+ghost use mathlib.Core.List.{_∷_, []};
 ghost use Prim.Native.Nat.{_≤_, _<_};
 ghost use lib.ListN.{length, take};
 ghost use Rattle.capture.specs.Entry as specs;
 use line::Event;
 use wire::Part;
 
+// The number of eight bytes in which the fields stand.
 fn packed(kind: u8, count: usize, major: u8, minor: u8, wrapper: u8, offset: usize) -> u64
     requires { ⌜ (count < 65536) × (offset < 65536) ⌝ }
-    ensures { λ r. ⌜ r ≡ specs.packed kind count major minor wrapper offset ⌝ }
+    ensures { λ r. ⌜ r ≡ specs.packed (kind ∷ count ∷ major ∷ minor ∷ wrapper ∷ offset ∷ []) ⌝ }
 {
-    let behind_minor = (wrapper as u64) + 256 * (offset as u64);
-    let behind_count = (major as u64) + 256 * ((minor as u64) + 256 * behind_minor);
-    (kind as u64) + 256 * ((count as u64) + 65536 * behind_count)
+    let c = wire::u16_bytes(count as u16);
+    let o = wire::u16_bytes(offset as u16);
+    let bytes = [kind, c[0], c[1], major, minor, wrapper, o[0], o[1]];
+    wire::read_u64(&bytes, 0)
 }
 
 // A refusal's entry.
 pub fn refusal(number: u8, place: usize, offset: usize) -> u64
     requires { ⌜ (place < 65536) × (offset < 65536) ⌝ }
-    ensures { λ r. ⌜ r ≡ specs.packed number place 0 0 0 offset ⌝ }
+    ensures { λ r. ⌜ r ≡ specs.packed (number ∷ place ∷ 0 ∷ 0 ∷ 0 ∷ offset ∷ []) ⌝ }
 {
     packed(number, place, 0, 0, 0, offset)
 }
@@ -26,7 +29,7 @@ pub fn refusal(number: u8, place: usize, offset: usize) -> u64
 // A frame's entry.
 pub fn frame(major: u8, minor: u8, wrapper: u8, len: usize, offset: usize) -> u64
     requires { ⌜ (len < 65536) × (offset < 65536) ⌝ }
-    ensures { λ r. ⌜ r ≡ specs.packed 5 len major minor wrapper offset ⌝ }
+    ensures { λ r. ⌜ r ≡ specs.packed (5 ∷ len ∷ major ∷ minor ∷ wrapper ∷ offset ∷ []) ⌝ }
 {
     packed(5, len, major, minor, wrapper, offset)
 }
@@ -35,13 +38,14 @@ pub fn frame(major: u8, minor: u8, wrapper: u8, len: usize, offset: usize) -> u6
 pub fn event_of(entry: u64) -> Event
     ensures { λ e. ⌜ e ≡ specs.eventOf entry ⌝ }
 {
-    let kind = (entry % 256) as u8;
-    let count = (entry / 256 % 65536) as usize;
+    let bytes = wire::u64_bytes(entry);
+    let kind = bytes[0];
+    let count = wire::read_u16(&bytes, 1) as usize;
     if kind == 5 {
         return Event::Frame {
-            major: (entry / 16777216 % 256) as u8,
-            minor: (entry / 4294967296 % 256) as u8,
-            wrapper: (entry / 1099511627776 % 256) as u8,
+            major: bytes[3],
+            minor: bytes[4],
+            wrapper: bytes[5],
             len: count,
         };
     }
@@ -61,7 +65,8 @@ pub fn event_of(entry: u64) -> Event
 pub fn offset_of(entry: u64) -> usize
     ensures { λ r. ⌜ r ≡ specs.offsetOf entry ⌝ }
 {
-    (entry / 281474976710656) as usize
+    let bytes = wire::u64_bytes(entry);
+    wire::read_u16(&bytes, 6) as usize
 }
 
 // How long an event's payload is.
