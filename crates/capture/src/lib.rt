@@ -4,6 +4,7 @@ mod entries;
 
 pub use entries::event_of;
 pub use entries::offset_of;
+pub use entries::payload_length;
 pub use entries::payload_part;
 ghost use mathlib.Core.Path.{_≡_};
 ghost use mathlib.Core.Bool.{_||_};

@@ -16,30 +16,31 @@ use Rattle.line.specs.Line.{Emitted, refusal, frame, emitted, run, after}
 use Rattle.line.specs.Feed.{Feeds}
 use Rattle.line.proofs.Run.{run-append, after-append}
 use Rattle.line.proofs.Feeding.{feeds-after, feeds-forward}
-use Rattle.listing.specs.Listing.{entry, frameLine, refusedLine, eventText, linesOf, between, Lists}
+use Rattle.listing.specs.Listing.{words, entry, frameLine, refusedLine, eventText, linesOf, between, Lists}
 use Rattle.line.specs.declared.Receiver.{Receiver}
 use Rattle.line.specs.Feed.{Fed}
 use Rattle.line.specs.declared.Event.{Event}
 use Rattle.line.specs.declared.Event.the-variants.{Nothing, Frame, Refused}
 
 -- ---- an event's line, part by part
-pub entry-put : (word : List ℕ) (a b : ℕ) {room m n after : List ℕ} {at p q r : ℕ} → Puts (word ++ decimal a) at room p m → Puts (ascii " " ++ decimal b) p m q n
-    → Puts (ascii "\n") q n r after → Puts (entry word a b) at room r after
-entry-put word a b x y z =
-    puts-same (puts-then (puts-then x y) z) (ap (λ (t : List ℕ). t ++ ascii "\n") (sym (append-assoc (word ++ decimal a) (ascii " ") (decimal b))))
+pub words-put : (word : List ℕ) (a b : ℕ) {room m after : List ℕ} {at p q : ℕ} → Puts (word ++ decimal a) at room p m → Puts (ascii " " ++ decimal b) p m q after
+    → Puts (words word a b) at room q after
+words-put word a b x y = puts-same (puts-then x y) (sym (append-assoc (word ++ decimal a) (ascii " ") (decimal b)))
 
-entry-length : (word : List ℕ) (a b : ℕ) → length word ≤ 8 → length (entry word a b) ≤ 50
-entry-length word a b h =
+pub words-length : (word : List ℕ) (a b : ℕ) → length word ≤ 8 → length (words word a b) ≤ 49
+words-length word a b h =
     omega (
       arith,
       h,
-      length-append (word ++ decimal a ++ ascii " " ++ decimal b) (ascii "\n"),
       length-append (word ++ decimal a ++ ascii " ") (decimal b),
       length-append (word ++ decimal a) (ascii " "),
       length-append word (decimal a),
       decimal-length 20 a,
       decimal-length 20 b,
     )
+
+entry-length : (word : List ℕ) (a b : ℕ) → length word ≤ 8 → length (entry word a b) ≤ 50
+entry-length word a b h = omega (arith, words-length word a b h, length-append (words word a b) (ascii "\n"))
 
 event-length : (e : Event) → length (eventText e) ≤ 50
 event-length Nothing = omega arith

@@ -12,14 +12,22 @@ use Rattle.line.specs.declared.Event.{Event}
 use Rattle.line.specs.declared.Event.the-variants.{Nothing, Frame, Refused}
 
 -- a word and two numbers
-abbrev pub entry : List ℕ → ℕ → ℕ → List ℕ
-entry word a b = word ++ decimal a ++ ascii " " ++ decimal b ++ ascii "\n"
+abbrev pub words : List ℕ → ℕ → ℕ → List ℕ
+words word a b = word ++ decimal a ++ ascii " " ++ decimal b
 
--- frame TYPE LENGTH
+-- what an event is, nothing where there is none: frame TYPE LENGTH, refused N PLACE
+abbrev pub eventWords : Event → List ℕ
+eventWords Nothing = []
+eventWords (Frame major minor wrapper len) = words (ascii "frame ") wrapper len
+eventWords (Refused n place) = words (ascii "refused ") n place
+
+abbrev pub entry : List ℕ → ℕ → ℕ → List ℕ
+entry word a b = words word a b ++ ascii "\n"
+
+-- their lines
 abbrev pub frameLine : ℕ → ℕ → List ℕ
 frameLine wrapper len = entry (ascii "frame ") wrapper len
 
--- refused N PLACE
 abbrev pub refusedLine : ℕ → ℕ → List ℕ
 refusedLine n place = entry (ascii "refused ") n place
 

@@ -6,7 +6,7 @@ ghost use lib.ListN.{length};
 ghost use Rattle.text.specs.Puts.{Puts};
 ghost use Rattle.line.specs.Receive.{holding};
 ghost use Rattle.line.specs.Line.{after};
-ghost use Rattle.listing.specs.Listing.{eventText, Lists};
+ghost use Rattle.listing.specs.Listing.{eventWords, eventText, Lists};
 use libc::STDERR_FILENO;
 use libc::STDIN_FILENO;
 use libc::STDOUT_FILENO;
@@ -15,8 +15,8 @@ use line::Progress;
 use line::Receiver;
 
 // `frame TYPE LENGTH` or `refused N PLACE`, nothing where there is no event: put into `out` from `at` on; the answer is where it ends.
-pub fn event_line(out: &mut [u8], at: usize, e: Event) -> usize
-    ensures { λ r. ⌜ Puts (eventText e) at (now (out .entry)) r (now (out .exit)) ⌝ }
+pub fn event_words(out: &mut [u8], at: usize, e: Event) -> usize
+    ensures { λ r. ⌜ Puts (eventWords e) at (now (out .entry)) r (now (out .exit)) ⌝ }
 {
     match e {
         Event::Nothing => at,
@@ -27,14 +27,32 @@ pub fn event_line(out: &mut [u8], at: usize, e: Event) -> usize
             len,
         } => {
             let a = text::named(out, at, b"frame ", wrapper as u64);
-            let b = text::named(out, a, b" ", len as u64);
-            text::put(out, b, b"\n")
+            text::named(out, a, b" ", len as u64)
         }
         Event::Refused { number, place } => {
             let a = text::named(out, at, b"refused ", number as u64);
-            let b = text::named(out, a, b" ", place as u64);
-            text::put(out, b, b"\n")
+            text::named(out, a, b" ", place as u64)
         }
+    }
+}
+
+// The same as a line.
+pub fn event_line(out: &mut [u8], at: usize, e: Event) -> usize
+    ensures { λ r. ⌜ Puts (eventText e) at (now (out .entry)) r (now (out .exit)) ⌝ }
+{
+    let behind = event_words(out, at, e);
+    match e {
+        Event::Nothing => behind,
+        Event::Frame {
+            major: _,
+            minor: _,
+            wrapper: _,
+            len: _,
+        } => text::put(out, behind, b"\n"),
+        Event::Refused {
+            number: _,
+            place: _,
+        } => text::put(out, behind, b"\n"),
     }
 }
 
