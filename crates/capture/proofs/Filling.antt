@@ -1,9 +1,9 @@
 -- Entries and payloads of the events that are found, one behind the other. Assumes nothing.
 use mathlib.Core.Path.{_≡_, refl, sym, ap, _∙_, subst}
 use mathlib.Core.List.{List, [], _∷_, _++_, append-assoc, append-nil, map, flatten}
-use Prim.Native.Nat.{ℕ, _+_, _*_, _≤_}
+use Prim.Native.Nat.{ℕ, _+_, _*_, _≤_, _<_}
 use native.Mathlib.Omega.{arith}
-use lib.ListN.{length, drop, set, length-append, drop-of-length-le}
+use lib.ListN.{length, drop, set, length-append}
 use lib.Seq.{sets, length-sets}
 use borrow.Author.Tests.{le-ltb}
 use Rattle.wire.specs.Writing.{Stores, noRoom}
@@ -18,6 +18,7 @@ use Rattle.capture.specs.Capture.{Found, foundAt, foundFrom, decoded}
 use Rattle.capture.specs.Entry.{packed, entry, payloadLength}
 use Rattle.capture.specs.Decoding.{entriesIn, entriesOf, payloadOf, payloadsIn, payloadsOf}
 use Rattle.capture.specs.Looking.{Fits, Looks, seenIn, eventCount, Room, PutsEvent, CountsOf}
+use Rattle.capture.proofs.Finding.{none-left}
 use Rattle.capture.specs.declared.ahead.Seen.{Seen}
 
 pub entries-append : (fs gs : List Found) → entriesIn (fs ++ gs) ≡ entriesIn fs ++ entriesIn gs
@@ -80,11 +81,6 @@ length-of (Refused n place) store h = omega arith
 pub length-limit : {s : List ℕ} {from : ℕ} {seen : Seen} {store : List ℕ} → Looks s from seen store → payloadLength (seen .event) ≤ 507
 length-limit {seen = seen} {store} h = length-of (seen .event) store (h .fits)
 
--- at the end nothing is left
-pub none-left : (s : List ℕ) (i : ℕ) → length s ≤ i → foundFrom i (drop i s) ≡ []
-unfolding foundFrom
-none-left s i h = ap (foundFrom i) (drop-of-length-le s h)
-
 -- ---- going through a capture
 -- up to an offset: how many entries and payload bytes there were, with those that are left
 pub record Left (s : List ℕ) (i entries bytes : ℕ) : Type 0 where
@@ -97,13 +93,13 @@ pub record Left (s : List ℕ) (i entries bytes : ℕ) : Type 0 where
 pub left-start : (s : List ℕ) → Left s 0 0 0
 left-start s = record { within = omega arith; entries-low = omega arith; bytes-low = omega arith; entries-all = omega arith; bytes-all = omega arith }
 
-pub left-next : {s : List ℕ} {i entries bytes : ℕ} {seen : Seen} {store : List ℕ} {n m : ℕ} → Left s i entries bytes → Looks s i seen store
+pub left-next : {s : List ℕ} {i entries bytes : ℕ} {seen : Seen} {store : List ℕ} {n m : ℕ} → i < length s → Left s i entries bytes → Looks s i seen store
     → (n ≡ eventCount (seen .event)) × (n ≤ 1) → m ≡ payloadLength (seen .event) → Left s (seen .next) (entries + n) (bytes + m)
-left-next l h n m =
+left-next u l h n m =
     record {
       within = h .within;
-      entries-low = omega (arith, l .entries-low, h .forward, n .1);
-      bytes-low = omega (arith, l .bytes-low, h .forward, m, length-limit h);
+      entries-low = omega (arith, l .entries-low, h .forward u, n .1);
+      bytes-low = omega (arith, l .bytes-low, h .forward u, m, length-limit h);
       entries-all = omega (arith, l .entries-all, n .0, entries-left h);
       bytes-all = omega (arith, l .bytes-all, m, payloads-left h);
     }
@@ -162,34 +158,34 @@ room-there l f h u v =
       stores = omega (arith, l .bytes-all, payloads-left h, f .buffer-long);
     }
 
--- ---- what is put, where the event is known
-module _ (seen : Seen) (store list : List ℕ) (entries : ℕ) (buffer : List ℕ) (bytes : ℕ) where
-  abbrev Puts : Event → List ℕ → List ℕ → Type 0
-  Puts e = PutsEvent (map (foundAt (seen .offset)) (emitted e store)) list entries buffer bytes
+-- ---- where the event is known: the room for it, and what is put
+pub room-as : {e e′ : Event} {store list : List ℕ} {entries : ℕ} {buffer : List ℕ} {bytes : ℕ} → e ≡ e′ → Room e store list entries buffer bytes
+    → Room e′ store list entries buffer bytes
+room-as {store = store} {list} {entries} {buffer} {bytes} q h = subst (λ (x : Event). Room x store list entries buffer bytes) q h
 
-  puts-as : (e : Event) (list′ buffer′ : List ℕ) → seen .event ≡ e → Puts e list′ buffer′ → Puts (seen .event) list′ buffer′
-  puts-as e list′ buffer′ q h = subst (λ (x : Event). Puts x list′ buffer′) (sym q) h
-
-  -- the room for it
-  pub room-as : (e : Event) → seen .event ≡ e → Room (seen .event) store list entries buffer bytes → Room e store list entries buffer bytes
-  room-as e q h = subst (λ (x : Event). Room x store list entries buffer bytes) q h
+module _ (seen : Seen) (store : List ℕ) {list : List ℕ} {entries : ℕ} {buffer : List ℕ} {bytes : ℕ} where
+  puts-as : (e : Event) {list′ buffer′ : List ℕ} → seen .event ≡ e
+      → PutsEvent (map (foundAt (seen .offset)) (emitted e store)) list entries buffer bytes list′ buffer′
+      → PutsEvent (seenIn seen store) list entries buffer bytes list′ buffer′
+  puts-as e {list′} {buffer′} q h =
+      subst (λ (x : Event). PutsEvent (map (foundAt (seen .offset)) (emitted x store)) list entries buffer bytes list′ buffer′) (sym q) h
 
   pub puts-nothing : seen .event ≡ Nothing → PutsEvent (seenIn seen store) list entries buffer bytes list buffer
   unfolding flatten
-  puts-nothing q = puts-as Nothing list buffer q (record { lists = refl; stores = refl })
+  puts-nothing q = puts-as Nothing q (record { lists = refl; stores = refl })
 
-  pub puts-refusal : (n place : ℕ) {x : ℕ} → seen .event ≡ Refused n place → x ≡ packed (n ∷ place ∷ 0 ∷ 0 ∷ 0 ∷ seen .offset ∷ [])
+  pub puts-refusal : {n place x : ℕ} → seen .event ≡ Refused n place → x ≡ packed (n ∷ place ∷ 0 ∷ 0 ∷ 0 ∷ seen .offset ∷ [])
       → PutsEvent (seenIn seen store) list entries buffer bytes (set list entries x) buffer
   unfolding flatten
-  puts-refusal n place {x} q e = puts-as (Refused n place) (set list entries x) buffer q (record { lists = ap (set list entries) e; stores = refl })
+  puts-refusal q e = puts-as (Refused _ _) q (record { lists = ap (set list entries) e; stores = refl })
 
-  pub puts-frame : (major minor wrapper len : ℕ) {x : ℕ} {payload buffer′ : List ℕ} {answer : Written} → seen .event ≡ Frame major minor wrapper len
+  pub puts-frame : {major minor wrapper len x : ℕ} {payload buffer′ : List ℕ} {answer : Written} → seen .event ≡ Frame major minor wrapper len
       → x ≡ packed (5 ∷ len ∷ major ∷ minor ∷ wrapper ∷ seen .offset ∷ []) → payload ≡ framePayload len store → bytes + length payload ≤ length buffer
       → Stores (noRoom bytes payload buffer ∷ []) bytes payload buffer answer buffer′
       → PutsEvent (seenIn seen store) list entries buffer bytes (set list entries x) buffer′
   unfolding flatten
-  puts-frame major minor wrapper len {x} {payload} {buffer′} q e p r w =
-      puts-as (Frame major minor wrapper len) (set list entries x) buffer′ q
+  puts-frame {len = len} {payload = payload} q e p r w =
+      puts-as (Frame _ _ _ _) q
       (record {
         lists = ap (set list entries) e;
         stores =

@@ -1,14 +1,12 @@
 -- The next event of a capture. Assumes nothing.
-use mathlib.Core.Path.{_≡_, refl, sym, ap, ap₂, _∙_, subst}
+use mathlib.Core.Path.{_≡_, sym, ap, ap₂, _∙_, subst}
 use mathlib.Core.List.{List, [], _∷_, _++_, map}
-use mathlib.Core.Bool.{Bool, true, false}
 use Prim.Native.Nat.{ℕ, zero, suc, _+_, _-_, _*_, _≤_, _<_}
 use native.Mathlib.Omega.{arith}
 use lib.ListN.{length, take, drop, getD, length-drop, drop-of-length-le}
 use lib.Seq.{drop-cons, length-take-le}
 use lib.Dec.{eqb}
 use borrow.Author.Tests.{eq-eqb, ne-eqb}
-use Rattle.wire.specs.Choice.{pick}
 use Rattle.wire.specs.Numbers.{num}
 use Rattle.wire.proofs.Choice.{pick-all}
 use Rattle.crc.specs.Crc.{crcOf}
@@ -95,15 +93,31 @@ fits (Frame major minor wrapper len) store h = h .0
 fits (Refused n place) store h = h .0
 
 -- ---- the next event
+-- at the end nothing is left
+pub none-left : (s : List ℕ) (i : ℕ) → length s ≤ i → foundFrom i (drop i s) ≡ []
+unfolding foundFrom
+none-left s i h = ap (foundFrom i) (drop-of-length-le s h)
+
+pub looks-end : {s : List ℕ} {from : ℕ} {store : List ℕ} {r : Seen} → length s ≤ from → r ≡ nothingSeen from (length s) → Looks s from r store
+looks-end {s} {from} {store} u q =
+    subst (λ (x : Seen). Looks s from x store) (sym q)
+    (record {
+      events = none-left s from u ∙ sym (none-left s (length s) (omega arith));
+      forward = λ below. omega arith;
+      within = omega arith;
+      below = λ below. omega arith;
+      fits = tt;
+    })
+
 module _ {s : List ℕ} {from at : ℕ} {store : List ℕ} {r : Seen} (below : from < length s) (h : StartFrom s from at) where
   pub looks-nothing : length s ≤ at → r ≡ nothingSeen from (length s) → Looks s from r store
   looks-nothing u q =
       subst (λ (x : Seen). Looks s from x store) (sym q)
       (record {
         events = found-past s from at (h .forward) (h .within) (h .clear) ∙ ap (λ (n : ℕ). foundFrom n (drop n s)) (let e : at ≡ length s = omega (arith, h .within) in e);
-        forward = below;
+        forward = λ u. below;
         within = omega arith;
-        below = below;
+        below = λ u. below;
         fits = tt;
       })
 
@@ -116,8 +130,8 @@ module _ {s : List ℕ} {from at : ℕ} {store : List ℕ} {r : Seen} (below : f
             ∙ ap₂ (λ (x y : List Found). x ++ y)
             (ap₂ (λ (n : ℕ) (es : List Emitted). map (foundAt n) es) (sym (t .offset-is)) (sym (t .event)))
             (found-past s (at + 1) (r .next) (t .forward) (t .within) (t .clear));
-        forward = omega (arith, h .forward, t .forward);
+        forward = λ below. omega (arith, h .forward, t .forward);
         within = t .within;
-        below = omega (arith, t .offset-is);
+        below = λ below. omega (arith, t .offset-is);
         fits = fits (r .event) store (subst Each (sym (t .event)) (behind-start-each (drop (at + 1) s)));
       }

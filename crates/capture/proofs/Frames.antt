@@ -11,7 +11,7 @@ use Rattle.wire.specs.Parts.{part, partOf}
 use Rattle.wire.proofs.Lists.{part-in}
 use Rattle.crc.specs.Crc.{crcOf}
 use Rattle.line.specs.Receive.{framePayload}
-use Rattle.line.specs.Line.{Emitted, refusal, frame, frameGives}
+use Rattle.line.specs.Line.{refusal, frame, frameGives}
 use Rattle.capture.specs.Capture.{checked}
 
 -- the receiver checks what stands at the front of its store

@@ -1,4 +1,5 @@
 pub mod Frames
+pub mod Values
 pub mod Agreement
 pub mod Unescaping
 pub mod Reaching

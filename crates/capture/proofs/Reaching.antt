@@ -1,7 +1,7 @@
 -- What lies between an offset and the last of the unescaped bytes found behind it. Assumes nothing.
 use mathlib.Core.Path.{_≡_, refl, sym, ap, ap₂, _∙_, subst}
 use mathlib.Core.List.{List, [], _∷_, _++_}
-use mathlib.Core.Bool.{Bool, true, false, _||_}
+use mathlib.Core.Bool.{_||_}
 use Prim.Native.Nat.{ℕ, zero, suc, _+_, _-_, _*_, _≤_, _<_}
 use native.Mathlib.Omega.{arith}
 use lib.ListN.{length, take, drop, getD, set, length-drop, length-append}
@@ -9,7 +9,6 @@ use lib.Seq.{getD-drop, take-suc, take-suc-set, take-at, length-take-le, sets, s
 use lib.Bits.{bitXor}
 use lib.Dec.{eqb}
 use borrow.Author.Tests.{eqb-false}
-use Rattle.wire.specs.Choice.{pick}
 use Rattle.wire.proofs.Choice.{pick-all}
 use Rattle.line.specs.Line.{NoStart}
 use Rattle.capture.specs.Ahead.{Ahead, whole, start, badEscape, end, before, behindEscape, ahead}

@@ -2,7 +2,7 @@
 use mathlib.Core.Path.{_≡_, refl, sym, ap, ap₂, _∙_, subst}
 use mathlib.Core.List.{List, [], _∷_, _++_, append-assoc, append-nil, map, flatten}
 use mathlib.Core.Bool.{Bool, true, false, _||_}
-use Prim.Native.Nat.{ℕ, zero, suc, _+_, _-_, _/_, _%_, _≤_, _<_}
+use Prim.Native.Nat.{ℕ, zero, suc, _+_, _-_, _≤_, _<_}
 use native.Mathlib.Omega.{arith}
 use lib.ListN.{length, take, drop, getD, length-append, List·getD-append, List·getD-map}
 use lib.Seq.{split-at, take-append-le, take-at, drop-at}
@@ -25,7 +25,7 @@ use Rattle.line.specs.Receive.{within, freshReceiver}
 use Rattle.line.specs.Line.{Emitted, refusal, frame}
 use Rattle.capture.specs.Ahead.{Ahead, whole, start, badEscape, end, before, behindEscape, ahead}
 use Rattle.capture.specs.Capture.{found, checked, sized, behindStart, Found, foundAt, foundFrom, decoded}
-use Rattle.capture.specs.Entry.{entryFields, entryValues, packed, entry, valuesOf, eventBy, eventOf, offsetOf, payloadLength, payloadTotal, payloadPart}
+use Rattle.capture.specs.Entry.{entryFields, packed, entry, valuesOf, eventBy, eventOf, offsetOf, payloadLength, payloadTotal, payloadPart}
 use Rattle.capture.specs.Decoding.{payloadOf, entriesIn, entriesOf, payloadsIn, payloadsOf, captureRules}
 use Rattle.capture.specs.Agreement.{handedOut}
 use Rattle.capture.specs.Reading.{Bytes, told, none, Reads, ReadsBack}

@@ -1,8 +1,8 @@
 -- A list of as many entries, and a buffer of as many bytes, as the capture has bytes always suffice. Assumes nothing.
-use mathlib.Core.Path.{_≡_, refl, sym, ap, _∙_, subst}
+use mathlib.Core.Path.{_≡_, refl, sym, ap}
 use mathlib.Core.List.{List, [], _∷_, _++_, map, flatten}
 use mathlib.Core.Bool.{Bool, true, false}
-use Prim.Native.Nat.{ℕ, zero, suc, _+_, _-_, _≤_, _<_, min}
+use Prim.Native.Nat.{ℕ, zero, suc, _+_, _-_, _≤_}
 use native.Mathlib.Omega.{arith}
 use lib.ListN.{length, take, drop, length-append, length-take}
 use lib.Dec.{eqb}
@@ -12,11 +12,11 @@ use Rattle.wire.specs.Numbers.{num}
 use Rattle.wire.proofs.Choice.{pick-all}
 use Rattle.crc.specs.Crc.{crcOf}
 use Rattle.line.specs.Receive.{within}
-use Rattle.line.specs.Line.{Emitted, refusal, frame, NoStart}
+use Rattle.line.specs.Line.{Emitted, NoStart}
 use Rattle.capture.specs.Ahead.{Ahead, whole, start, badEscape, end, ahead}
 use Rattle.capture.specs.Capture.{found, checked, sized, behindStart, Found, foundAt, foundFrom}
-use Rattle.capture.specs.Decoding.{payloadOfEvent, entriesIn, entriesOf, payloadsIn, payloadsOf, RoomsSuffice}
-use Rattle.capture.proofs.Reaching.{Reached, reached}
+use Rattle.capture.specs.Decoding.{payloadOfEvent, entriesIn, payloadsIn, RoomsSuffice}
+use Rattle.capture.proofs.Reaching.{reached}
 use Rattle.capture.proofs.Filling.{entries-append, payloads-append}
 
 -- how many bytes stand before the first 7E

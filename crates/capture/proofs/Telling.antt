@@ -1,7 +1,7 @@
 -- What the code tells of a frame: laws over plain variables. Assumes nothing.
 use mathlib.Core.Path.{_≡_, refl, sym, ap, _∙_, subst}
-use mathlib.Core.List.{List, [], _∷_, _++_}
-use mathlib.Core.Bool.{Bool, true, false}
+use mathlib.Core.List.{List, [], _∷_}
+use mathlib.Core.Bool.{false}
 use Prim.Native.Nat.{ℕ, _+_, _-_, _*_, _≤_, _<_}
 use native.Mathlib.Omega.{arith}
 use lib.ListN.{length, take, drop, getD}
@@ -9,7 +9,6 @@ use borrow.Author.Tests.{le-leb}
 use Rattle.wire.specs.Numbers.{num}
 use Rattle.line.specs.Receive.{within}
 use Rattle.line.specs.Line.{Emitted, refusal, emitted}
-use Rattle.line.specs.declared.Event.the-variants.{Nothing, Refused}
 use Rattle.capture.specs.Ahead.{Ahead, whole, start, badEscape, end, ahead}
 use Rattle.capture.specs.Capture.{found, checked, sized, behindStart}
 use Rattle.capture.specs.Looking.{NoStartIn, Stuck, Holds, Takes, nothingSeen, refusalSeen, stopped, Tells}

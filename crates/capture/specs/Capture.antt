@@ -6,10 +6,10 @@ use lib.ListN.{take, drop, getD}
 use lib.Dec.{eqb}
 use Rattle.wire.specs.Choice.{pick}
 use Rattle.wire.specs.Numbers.{num}
-use Rattle.crc.specs.Crc.{crcOf}
+use Rattle.crc.specs.Crc.{crcOf, crcFrom, crcByte, crcBit}
 use Rattle.line.specs.Receive.{within}
 use Rattle.line.specs.Line.{Emitted, refusal, frame}
-use Rattle.capture.specs.Ahead.{Ahead, whole, start, badEscape, end, ahead}
+use Rattle.capture.specs.Ahead.{Ahead, whole, start, badEscape, end, ahead, before, behindEscape}
 
 -- what is found ahead of a place of a frame, its start byte counted as 1: 1 at a 7E, 2 at a bad escape, nothing at the end of the capture;
 -- else what the bytes give
@@ -54,3 +54,24 @@ foundFrom at (b ∷ bs) = pick (eqb b 0x7E) (map (foundAt at) (behindStart bs)) 
 -- the whole capture
 abbrev pub decoded : List ℕ → List Found
 decoded capture = foundFrom 0 capture
+
+-- ---- on the line, by hand from document 01: its hello frame, a byte of noise and a size of 0; a CRC byte off by one; 7E 7E, 7E 5C 7E and
+-- 7E 5C 5C; and a frame that ends with the capture. Offsets are counted from 0, places from the start byte as 1
+example-frame :
+    decoded (0x7E ∷ 0x08 ∷ 0x00 ∷ 0x01 ∷ 0x00 ∷ 0x00 ∷ 0x00 ∷ 0x00 ∷ 0x00 ∷ 0xB0 ∷ 0x4B ∷ 0x41 ∷ 0x7E ∷ 0x00 ∷ 0x00 ∷ [])
+    ≡ foundAt 0 (frame 1 0 0 3 (0 ∷ 0 ∷ 0 ∷ [])) ∷ foundAt 12 (refusal 3 3) ∷ []
+unfolding foundFrom behindStart found sized checked ahead before crcFrom crcByte crcBit
+example-frame = refl
+
+example-crc :
+    decoded (0x41 ∷ 0x7E ∷ 0x08 ∷ 0x00 ∷ 0x01 ∷ 0x00 ∷ 0x00 ∷ 0x00 ∷ 0x00 ∷ 0x00 ∷ 0xB0 ∷ 0x4A ∷ []) ≡ foundAt 1 (refusal 4 11) ∷ []
+unfolding foundFrom behindStart found sized checked ahead before crcFrom crcByte crcBit
+example-crc = refl
+
+example-start : decoded (0x7E ∷ 0x7E ∷ 0x5C ∷ 0x7E ∷ 0x5C ∷ 0x5C ∷ []) ≡ foundAt 0 (refusal 1 2) ∷ foundAt 1 (refusal 1 3) ∷ foundAt 3 (refusal 2 3) ∷ []
+unfolding foundFrom behindStart found ahead before behindEscape
+example-start = refl
+
+example-end : decoded (0x7E ∷ 0x08 ∷ 0x00 ∷ 0x01 ∷ 0x5C ∷ []) ≡ []
+unfolding foundFrom behindStart found sized ahead before behindEscape
+example-end = refl

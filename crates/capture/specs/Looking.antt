@@ -93,14 +93,14 @@ pub record Tells (s : List ℕ) (offset at : ℕ) (events : List Emitted) (seen 
 abbrev pub seenIn : Seen → List ℕ → List Found
 seenIn seen store = map (foundAt (seen .offset)) (emitted (seen .event) store)
 
--- the next event from an offset of the capture on, and where to go on
+-- the next event from an offset of the capture on, and where to go on: further on, unless the capture ends before that offset
 pub record Looks (s : List ℕ) (from : ℕ) (seen : Seen) (store : List ℕ) : Type 0 where
   pub events :
       foundFrom from (drop from s)
       ≡ seenIn seen store ++ foundFrom (seen .next) (drop (seen .next) s)
-  pub forward : from < seen .next
+  pub forward : from < length s → from < seen .next
   pub within : seen .next ≤ length s
-  pub below : seen .offset < length s
+  pub below : from < length s → seen .offset < length s
   pub fits : Fits (seen .event) store
 
 -- ---- the lent list and buffer

@@ -13,10 +13,10 @@ use line::Event;
 use wire::Part;
 
 // An event, the offset of its start byte, and where to go on; where there is no event, that is the end of the capture.
-pub struct Seen {
-    pub event: Event,
-    pub offset: usize,
-    pub next: usize,
+pub(crate) struct Seen {
+    pub(crate) event: Event,
+    pub(crate) offset: usize,
+    pub(crate) next: usize,
 }
 
 // Whether one of two bytes is among 16. All 16 are looked at, so that they can be compared at once.
@@ -307,10 +307,12 @@ fn behind_start(s: &[u8], offset: usize, store: &mut [u8; 512]) -> Seen
 }
 
 // The next event from a place on.
-pub fn look(s: &[u8], from: usize, store: &mut [u8; 512]) -> Seen
-    requires { ⌜ from < length (now s) ⌝ }
+pub(crate) fn look(s: &[u8], from: usize, store: &mut [u8; 512]) -> Seen
     ensures { λ r. ⌜ Looks (now (s .entry)) from r (now (store .exit)) ⌝ }
 {
+    if s.len() <= from {
+        return nothing(s, from);
+    }
     let offset = next_start(s, from);
     if s.len() <= offset {
         return nothing(s, from);

@@ -1,34 +1,31 @@
 // Entries of the lent list: an event and the offset of its start byte as one number, and back.
 ghost use mathlib.Core.Path.{_≡_};
 ghost use mathlib.Core.List.{_∷_, []};
-ghost use Prim.Native.Nat.{_≤_, _<_};
+ghost use Prim.Native.Nat.{_≤_};
 ghost use lib.ListN.{length, take};
 ghost use Rattle.capture.specs.Entry as specs;
 use line::Event;
 use wire::Part;
 
 // The number of eight bytes in which the fields stand.
-fn packed(kind: u8, count: usize, major: u8, minor: u8, wrapper: u8, offset: usize) -> u64
-    requires { ⌜ (count < 65536) × (offset < 65536) ⌝ }
+fn packed(kind: u8, count: u16, major: u8, minor: u8, wrapper: u8, offset: u16) -> u64
     ensures { λ r. ⌜ r ≡ specs.packed (kind ∷ count ∷ major ∷ minor ∷ wrapper ∷ offset ∷ []) ⌝ }
 {
-    let c = wire::u16_bytes(count as u16);
-    let o = wire::u16_bytes(offset as u16);
+    let c = wire::u16_bytes(count);
+    let o = wire::u16_bytes(offset);
     let bytes = [kind, c[0], c[1], major, minor, wrapper, o[0], o[1]];
     wire::read_u64(&bytes, 0)
 }
 
 // A refusal's entry.
-pub fn refusal(number: u8, place: usize, offset: usize) -> u64
-    requires { ⌜ (place < 65536) × (offset < 65536) ⌝ }
+pub(crate) fn refusal(number: u8, place: u16, offset: u16) -> u64
     ensures { λ r. ⌜ r ≡ specs.packed (number ∷ place ∷ 0 ∷ 0 ∷ 0 ∷ offset ∷ []) ⌝ }
 {
     packed(number, place, 0, 0, 0, offset)
 }
 
 // A frame's entry.
-pub fn frame(major: u8, minor: u8, wrapper: u8, len: usize, offset: usize) -> u64
-    requires { ⌜ (len < 65536) × (offset < 65536) ⌝ }
+pub(crate) fn frame(major: u8, minor: u8, wrapper: u8, len: u16, offset: u16) -> u64
     ensures { λ r. ⌜ r ≡ specs.packed (5 ∷ len ∷ major ∷ minor ∷ wrapper ∷ offset ∷ []) ⌝ }
 {
     packed(5, len, major, minor, wrapper, offset)

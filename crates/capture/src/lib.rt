@@ -8,7 +8,7 @@ pub use entries::payload_length;
 pub use entries::payload_part;
 ghost use mathlib.Core.Path.{_≡_};
 ghost use mathlib.Core.Bool.{_||_};
-ghost use Prim.Native.Nat.{_+_, _≤_, _<_};
+ghost use Prim.Native.Nat.{_≤_, _<_};
 ghost use lib.ListN.{length};
 ghost use lib.Dec.{ltb};
 ghost use Rattle.capture.specs.Capture.{decoded};
@@ -79,7 +79,7 @@ fn put(
     requires { ⌜ Room (seen .event) (now store) (now list) entries (now buffer) bytes × (seen .offset < 65536) ⌝ }
     ensures { λ _. ⌜ PutsEvent (seenIn seen (now (store .entry))) (now (list .entry)) entries (now (buffer .entry)) bytes (now (list .exit)) (now (buffer .exit)) ⌝ }
 {
-    let offset = seen.offset;
+    let offset = seen.offset as u16;
     let e = seen.event;
     match e {
         Event::Nothing => {}
@@ -89,11 +89,11 @@ fn put(
             wrapper,
             len,
         } => {
-            list[entries] = entries::frame(major, minor, wrapper, len, offset);
+            list[entries] = entries::frame(major, minor, wrapper, len as u16, offset);
             wire::store(line::frame_payload(store, len), bytes, buffer);
         }
         Event::Refused { number, place } => {
-            list[entries] = entries::refusal(number, place, offset);
+            list[entries] = entries::refusal(number, place as u16, offset);
         }
     }
 }

@@ -25,10 +25,10 @@ add-bytes c =
     omega (arith, c .payload-length .ensures, length-limit (b .look .ensures), l .bytes-low, l .within)
 
 loop-less : tie.Need-loop-less Inv-loop μ-loop
-loop-less c = let h = c .before .before .look .ensures in omega (arith, h .forward, h .within)
+loop-less c = let h = c .before .before .look .ensures in omega (arith, h .forward (omega arith), h .within)
 
 loop-again : tie.Need-loop-again Inv-loop μ-loop
-loop-again c = let b = c .before .before in left-next (b .before .before .before .loop .inv) (b .look .ensures) (c .before .events-in .ensures) (c .payload-length .ensures)
+loop-again c = let b = c .before .before in left-next (omega arith) (b .before .before .before .loop .inv) (b .look .ensures) (c .before .events-in .ensures) (c .payload-length .ensures)
 
 returns : tie.Need-returns Inv-loop μ-loop
 returns c = left-end (c .before .loop .inv) (omega arith)

@@ -1,5 +1,4 @@
 -- `decode` meets its contract. Assumes nothing.
-use native.Mathlib.Omega.{arith}
 use borrow.Author.Needs.{needs}
 use Rattle.capture.proofs.Judging.{decodes-long, decodes-short, rooms, decodes-all}
 use Rattle.capture.proofs.decode.Statement.{statement}

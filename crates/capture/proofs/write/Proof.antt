@@ -20,7 +20,7 @@ put-requires c κs =
     let v = b .before .before .before .loop .inv in
     let p = b .before .before .before .before .before .before .before .pre in
     let h = b .look .ensures in
-    (room-there (v .0) (v .1) h (p .1) (p .2), omega (arith, h .below, p .0))
+    (room-there (v .0) (v .1) h (p .1) (p .2), omega (arith, h .below (omega arith), p .0))
 
 add-entries : tie.Need-add-entries Inv-loop μ-loop
 add-entries c =
@@ -34,7 +34,7 @@ add-bytes c =
     omega (arith, c .payload-length .ensures, length-limit (b .look .ensures), l .bytes-low, l .within)
 
 loop-less : tie.Need-loop-less Inv-loop μ-loop
-loop-less c = let h = c .before .before .before .before .before .before .before .before .before .before .look .ensures in omega (arith, h .forward, h .within)
+loop-less c = let h = c .before .before .before .before .before .before .before .before .before .before .look .ensures in omega (arith, h .forward (omega arith), h .within)
 
 loop-again : tie.Need-loop-again Inv-loop μ-loop
 loop-again c =
@@ -42,7 +42,7 @@ loop-again c =
     let b = q .before .before .before .before in
     let v = b .before .before .before .loop .inv in
     let n = c .before .events-in .ensures in
-    (left-next (v .0) (b .look .ensures) n (c .payload-length .ensures), filled-next (v .1) (b .look .ensures) (q .put .ensures) (n .0) (c .payload-length .ensures))
+    (left-next (omega arith) (v .0) (b .look .ensures) n (c .payload-length .ensures), filled-next (v .1) (b .look .ensures) (q .put .ensures) (n .0) (c .payload-length .ensures))
 
 returns : tie.Need-returns Inv-loop μ-loop
 returns c =

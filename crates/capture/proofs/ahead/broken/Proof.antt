@@ -1,5 +1,4 @@
 -- `broken` meets its contract. Assumes nothing.
-use native.Mathlib.Omega.{arith}
 use borrow.Author.Needs.{needs}
 use Rattle.capture.proofs.Telling.{stops-end, stops-start, stops-escape-end, stops-escape-start, stops-bad}
 use Rattle.capture.proofs.ahead.broken.Statement.{statement}

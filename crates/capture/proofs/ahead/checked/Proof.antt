@@ -1,11 +1,9 @@
 -- `checked` meets its contract. Assumes nothing.
-use mathlib.Core.Path.{_≡_, refl, ap, _∙_}
-use Prim.Native.Nat.{ℕ, _-_, _≤_}
-use native.Mathlib.Omega.{arith}
-use lib.ListN.{length}
+use mathlib.Core.Path.{refl, ap, _∙_}
+use Prim.Native.Nat.{_-_}
 use borrow.Author.Needs.{needs}
 use Rattle.crc.specs.Crc.{crcOf}
-use Rattle.line.specs.Line.{Emitted, emitted}
+use Rattle.line.specs.Line.{emitted}
 use Rattle.capture.specs.Looking.{refusalSeen}
 use Rattle.capture.specs.declared.ahead.Seen.{Seen}
 use Rattle.capture.proofs.Frames.{crc-differs, crc-same}

@@ -1,9 +1,8 @@
 -- `next_start` meets its contract. Assumes nothing.
-use mathlib.Core.Path.{_≡_, sym, _∙_}
+use mathlib.Core.Path.{_≡_}
 use Prim.Native.Nat.{ℕ, _+_, _-_, _≤_}
 use native.Mathlib.Omega.{arith}
 use lib.ListN.{length, getD}
-use borrow.Author.Needs.{needs}
 use Rattle.capture.specs.Looking.{NoStartIn}
 use Rattle.capture.proofs.Starts.{all-join, start-here, start-later}
 use Rattle.capture.proofs.ahead.next_start.Statement.{statement}

@@ -1,6 +1,5 @@
 -- `payload_part` meets its contract. Assumes nothing.
 use mathlib.Core.Path.{ap, _∙_}
-use native.Mathlib.Omega.{arith}
 use borrow.Author.Needs.{needs}
 use Rattle.capture.specs.Entry.{payloadLength}
 use Rattle.capture.proofs.Packing.{part-above, part-missing, part-there}
