@@ -1,11 +1,16 @@
 #!/usr/bin/env python3
-"""Writes what crates/line_cases must print for the cases in its stdin, by the sentences of document 01, 'Line', and document 02 §4.
+"""Writes what crates/line_cases must print for the cases in its stdin, by the sentences of document 01, 'Line', and document 02 §4 and §8.
 
     python3 bench/line/outcomes.py < crates/line_cases/stdin > crates/line_cases/stdout
 
 With the word list it writes what the line lister must print for a capture:
 
     python3 bench/line/outcomes.py list < crates/sample_listing/stdin > crates/sample_listing/stdout
+
+with decode what the capture decoder must print for one, and with capture what crates/capture_cases must print for its stdin:
+
+    python3 bench/line/outcomes.py decode < crates/capture_decoder/stdin > crates/capture_decoder/stdout
+    python3 bench/line/outcomes.py capture < crates/capture_cases/stdin > crates/capture_cases/stdout
 
 A frame is found by looking ahead in the bytes, and a place is worked out from where in them the frame's start byte stands.
 """
@@ -88,13 +93,15 @@ def rest_of_frame(record, store, data, at, origin):
 
 
 def receive(record, store, data):
-    """The events of data fed to a record, and the record after it; the store is changed in place."""
+    """The events of data fed to a record, each with the index of its frame's start byte, and the record after it; the store is changed in
+    place."""
     events, at, origin = [], 0, -record.count
     while at < len(data):
         if unfinished(record):
+            start = origin
             event, record, at = rest_of_frame(record, store, data, at, origin)
             if event:
-                events.append(event)
+                events.append((start, event))
         else:
             # "each byte but 7E is dropped"
             at = data.find(START, at) + 1
@@ -116,6 +123,28 @@ def write(wrapper, payload, room):
     if len(room) < len(image):
         return ("refused", 25), room
     return ("wrote", len(image)), image + room[len(image):]
+
+
+def decode(data, entries, room):
+    """The decoder's answer, its list and its buffer as bytes, and the events where there are any; all bytes lent are EE."""
+    lists, buffer = b"\xee" * 8 * entries, b"\xee" * room
+    if len(data) > 65536:
+        return (17,), lists, buffer, []
+    events = receive(IDLE, bytearray(512), data)[0]
+    payloads = b"".join(event[4] for _, event in events if event[0] == "frame")
+    if entries < len(events) or room < len(payloads):
+        return (25,), lists, buffer, []
+    front = b"".join(entry(*found) for found in events)
+    return (len(events), len(payloads)), front + lists[len(front):], payloads + buffer[len(payloads):], events
+
+
+def entry(offset, event):
+    """Eight bytes, low byte first: kind, payload length or place, major, minor, wrapper type, offset; as docs/DECISIONS.md fixes them."""
+    if event[0] == "refused":
+        kind, count, rest = event[1], event[2], bytes(3)
+    else:
+        kind, count, rest = 5, len(event[4]), bytes(event[1:4])
+    return bytes([kind]) + count.to_bytes(2, "little") + rest + offset.to_bytes(2, "little")
 
 
 def parsed(text):
@@ -146,18 +175,57 @@ def outcome(kind, *fields):
         front = parsed(fields[1])
         store[:len(front)] = front
     events, record = receive(record, store, parsed(fields[-1]))
-    return "".join(map(told, events)) + "; changed by cuts 0; record %d %d %d %d %d %d; store" % record + runs(store)
+    return "".join(told(event) for _, event in events) + "; changed by cuts 0; record %d %d %d %d %d %d; store" % record + runs(store)
+
+
+def decoder_outcome(entries, room, data):
+    answer, lists, buffer, events = decode(parsed(data), int(entries), int(room))
+    if len(answer) == 1:
+        said = " refused %d" % answer
+    else:
+        said = " entries %d, bytes %d" % answer
+        for offset, event in events[:8]:
+            numbers = event[1:] if event[0] == "refused" else (*event[1:4], len(event[4]))
+            said += f"; {offset} {event[0]} " + " ".join(map(str, numbers))
+            if event[0] == "frame" and event[4]:
+                said += " " + event[4].hex()
+    each = [lists[k:k + 8].hex() for k in range(0, len(lists), 8)]
+    said += "; list" + ("".join(" " + e for e in each) if len(each) <= 8 else " CRC " + crc(lists).hex())
+    said += "; buffer " + (buffer.hex() if len(buffer) <= 64 else "CRC " + crc(buffer).hex())
+    return said + ("; receiver same" if len(answer) == 2 else "")
+
+
+def lister_line(event):
+    return "refused %d %d" % event[1:] if event[0] == "refused" else f"frame {event[3]} {len(event[4])}"
+
+
+# when a refusal is given: document 01's table
+REASONS = {
+    1: "7E inside an unfinished frame",
+    2: "5C followed by other than 3E, 1C or 7E",
+    3: "size below 5 or above 512",
+    4: "CRC differs",
+}
+
+
+def decoder_line(offset, event):
+    line = f"{offset} {lister_line(event)}"
+    if event[0] == "refused":
+        return f"{line}: {REASONS[event[1]]}"
+    payload = event[4]
+    return line + (f": {payload[:32].hex()}" if payload else "") + (".." if len(payload) > 32 else "")
 
 
 def main():
-    if sys.argv[1:] == ["list"]:
-        for event in receive(IDLE, bytearray(512), sys.stdin.buffer.read())[0]:
-            print("refused %d %d" % event[1:] if event[0] == "refused" else f"frame {event[3]} {len(event[4])}")
+    mode = "".join(sys.argv[1:])
+    if mode in ("list", "decode"):
+        for offset, event in receive(IDLE, bytearray(512), sys.stdin.buffer.read())[0]:
+            print(lister_line(event) if mode == "list" else decoder_line(offset, event))
         print("end")
-    else:
-        for line in sys.stdin.read().splitlines():
-            label, *fields = line.split("|")
-            print(label + ":" + outcome(*fields))
+        return
+    for line in sys.stdin.read().splitlines():
+        label, *fields = line.split("|")
+        print(label + ":" + (decoder_outcome if mode == "capture" else outcome)(*fields))
 
 
 if __name__ == "__main__":

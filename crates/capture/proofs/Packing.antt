@@ -15,7 +15,7 @@ use Rattle.wire.specs.Parts.{part}
 use Rattle.wire.proofs.Choice.{pick-all, and-false}
 use Rattle.line.specs.declared.Event.{Event}
 use Rattle.line.specs.declared.Event.the-variants.{Nothing, Frame, Refused}
-use Rattle.capture.specs.Entry.{entryFields, valuesOf, eventBy, eventOf, payloadLength, payloadTotal, payloadPart}
+use Rattle.capture.specs.Entry.{entryFields, valuesOf, eventBy, eventOf, payloadLength, lengthOf, payloadTotal, payloadPart}
 
 -- ---- an entry's event, from its bytes
 module _ (bytes : List ℕ) (n count : ℕ) (e : bytes ≡ le 8 n) (c : count ≡ num 2 1 bytes) where
@@ -42,7 +42,7 @@ module _ (bytes : List ℕ) (n count : ℕ) (e : bytes ≡ le 8 n) (c : count �
     refusal-event l h = subst (λ (b : List ℕ). Refused (getD bytes 0 0) count ≡ event b) e (sym (simp (ne-eqb _ _ k, le-leb _ _ l, le-leb _ _ h, c)))
 
 -- an entry's payload length is a number of 16 bits
-pub length-below : (n : ℕ) → payloadLength (eventOf n) < 65536
+pub length-below : (n : ℕ) → lengthOf n < 65536
 unfolding eventBy
 length-below n =
     let kind : ℕ = getD (valuesOf n) 0 0 in
@@ -53,14 +53,14 @@ pub total-append : (ns ms : List ℕ) → payloadTotal (ns ++ ms) ≡ payloadTot
 unfolding payloadTotal
 total-append [] ms = (let e : payloadTotal ms ≡ 0 + payloadTotal ms = omega arith in e)
 total-append (n ∷ ns) ms =
-    let e : payloadLength (eventOf n) + (payloadTotal ns + payloadTotal ms) ≡ payloadLength (eventOf n) + payloadTotal ns + payloadTotal ms = omega arith in
-    ap (λ (k : ℕ). payloadLength (eventOf n) + k) (total-append ns ms) ∙ e
+    let e : lengthOf n + (payloadTotal ns + payloadTotal ms) ≡ lengthOf n + payloadTotal ns + payloadTotal ms = omega arith in
+    ap (λ (k : ℕ). lengthOf n + k) (total-append ns ms) ∙ e
 
 -- one entry more
-pub total-next : (list : List ℕ) (i : ℕ) → i < length list → payloadTotal (take i list) + payloadLength (eventOf (getD list i 0)) ≡ payloadTotal (take (i + 1) list)
+pub total-next : (list : List ℕ) (i : ℕ) → i < length list → payloadTotal (take i list) + lengthOf (getD list i 0) ≡ payloadTotal (take (i + 1) list)
 unfolding payloadTotal
 total-next list i h =
-    let x : ℕ = payloadLength (eventOf (getD list i 0)) in
+    let x : ℕ = lengthOf (getD list i 0) in
     let t : take (i + 1) list ≡ take i list ++ (getD list i 0 ∷ []) = rw (add-one i) (take-suc list i 0 h) in
     sym (ap payloadTotal t ∙ total-append (take i list) (getD list i 0 ∷ []) ∙ (let e : payloadTotal (take i list) + (x + 0) ≡ payloadTotal (take i list) + x = omega arith in e))
 
@@ -77,6 +77,6 @@ module _ (list : List ℕ) (k : ℕ) where
       let t : take (length list) list ≡ take k list = take-all (length list) list (omega arith) ∙ sym (take-all k list h) in
       sym (simp (le-ltb _ _ u, List·getD-eq-default list 0 h) (ap (λ (n : ℕ). part n 0) (ap payloadTotal (sym t) ∙ sym e)))
 
-  pub part-there : k ≤ 65536 → (total len : ℕ) → total ≡ payloadTotal (take k list) → len ≡ payloadLength (eventOf (getD list k 0)) → part total len ≡ payloadPart list k
+  pub part-there : k ≤ 65536 → (total len : ℕ) → total ≡ payloadTotal (take k list) → len ≡ lengthOf (getD list k 0) → part total len ≡ payloadPart list k
   unfolding payloadPart
   part-there u total len e f = sym (simp (le-ltb _ _ u, e, f))

@@ -53,15 +53,18 @@ payloadLength Nothing = 0
 payloadLength (Frame major minor wrapper len) = len
 payloadLength (Refused n place) = 0
 
+abbrev pub lengthOf : ℕ → ℕ
+lengthOf n = payloadLength (eventOf n)
+
 unfoldable pub payloadTotal : List ℕ → ℕ
 payloadTotal [] = 0
-payloadTotal (n ∷ ns) = payloadLength (eventOf n) + payloadTotal ns
+payloadTotal (n ∷ ns) = lengthOf n + payloadTotal ns
 
 -- the part of the entry with a number, counted from 0: behind the payloads of the entries before it. A refusal's is empty, and so is that
 -- of an entry that is not there; no capture has more than 65,536 entries
 unfoldable pub payloadPart : List ℕ → ℕ → Part
 payloadPart entries k =
-    pick (ltb 65536 k) (part 0 0) (part (payloadTotal (take k entries)) (payloadLength (eventOf (getD entries k 0))))
+    pick (ltb 65536 k) (part 0 0) (part (payloadTotal (take k entries)) (lengthOf (getD entries k 0)))
 
 -- ---- the hello frame of document 01 at offset 6, and refusal 3 at place 3 behind offset 12
 example-frame : entry (foundAt 6 (frame 1 0 0 3 (0 ∷ 0 ∷ 0 ∷ []))) ≡ 0x0006000001000305

@@ -1,7 +1,7 @@
 // Entries of the lent list: an event and the offset of its start byte as one number, and back.
 ghost use mathlib.Core.Path.{_≡_};
 ghost use mathlib.Core.List.{_∷_, []};
-ghost use Prim.Native.Nat.{_≤_};
+ghost use Prim.Native.Nat.{_≤_, _<_};
 ghost use lib.ListN.{length, take};
 ghost use Rattle.capture.specs.Entry as specs;
 use line::Event;
@@ -67,7 +67,7 @@ pub fn offset_of(entry: u64) -> usize
 }
 
 // How long an event's payload is.
-pub fn payload_length(e: Event) -> usize
+pub(crate) fn payload_length(e: Event) -> usize
     ensures { λ r. ⌜ r ≡ specs.payloadLength e ⌝ }
 {
     match e {
@@ -85,6 +85,13 @@ pub fn payload_length(e: Event) -> usize
     }
 }
 
+// How long the payload of an entry is: 0 where it is no frame's.
+pub fn length_of(entry: u64) -> usize
+    ensures { λ r. ⌜ (r ≡ specs.lengthOf entry) × (r < 65536) ⌝ }
+{
+    payload_length(event_of(entry))
+}
+
 // The payload bytes of the first `n` entries.
 fn payload_total(list: &[u64], n: usize) -> usize
     requires { ⌜ (n ≤ length (now list)) × (n ≤ 65536) ⌝ }
@@ -93,7 +100,7 @@ fn payload_total(list: &[u64], n: usize) -> usize
     let mut total: usize = 0;
     let mut i: usize = 0;
     while i < n {
-        total += payload_length(event_of(list[i]));
+        total += length_of(list[i]);
         i += 1;
     }
     total
@@ -116,6 +123,6 @@ pub fn payload_part(list: &[u64], k: usize) -> Part
     let start = payload_total(list, k);
     Part {
         start,
-        len: payload_length(event_of(list[k])),
+        len: length_of(list[k]),
     }
 }

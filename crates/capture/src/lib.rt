@@ -3,8 +3,8 @@ mod ahead;
 mod entries;
 
 pub use entries::event_of;
+pub use entries::length_of;
 pub use entries::offset_of;
-pub use entries::payload_length;
 pub use entries::payload_part;
 ghost use mathlib.Core.Path.{_≡_};
 ghost use mathlib.Core.Bool.{_||_};

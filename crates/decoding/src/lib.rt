@@ -79,7 +79,7 @@ fn print_line(entry: u64, payloads: &[u8], start: usize) -> usize
     ensures { λ r. ⌜ r ≤ start + 65535 ⌝ }
 {
     let e = capture::event_of(entry);
-    let len = capture::payload_length(e);
+    let len = capture::length_of(entry);
     let payload = wire::part_of(payloads, Part { start, len });
     let mut out = [0u8; 160];
     let n = event_line(&mut out, 0, capture::offset_of(entry), e, payload);

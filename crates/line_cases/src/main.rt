@@ -59,24 +59,19 @@ fn runs(out: &mut [u8], at: usize, s: &[u8]) -> usize {
 
 // ` frame MAJOR MINOR TYPE LENGTH` and the payload, or ` refused N PLACE`.
 fn event(out: &mut [u8], at: usize, e: Event, store: &[u8; 512]) -> usize {
+    let behind = listing::event_numbers(out, at, e);
     match e {
-        Event::Nothing => at,
+        Event::Nothing => behind,
         Event::Frame {
-            major,
-            minor,
-            wrapper,
+            major: _,
+            minor: _,
+            wrapper: _,
             len,
-        } => {
-            let numbers = [major as u64, minor as u64, wrapper as u64, len as u64];
-            let name = text::put(out, at, b" frame");
-            let behind = text::decimals(out, name, &numbers);
-            runs(out, behind, line::frame_payload(store, len))
-        }
-        Event::Refused { number, place } => {
-            let numbers = [number as u64, place as u64];
-            let name = text::put(out, at, b" refused");
-            text::decimals(out, name, &numbers)
-        }
+        } => runs(out, behind, line::frame_payload(store, len)),
+        Event::Refused {
+            number: _,
+            place: _,
+        } => behind,
     }
 }
 

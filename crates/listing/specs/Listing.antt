@@ -4,7 +4,7 @@ use mathlib.Core.Path.{_≡_, refl}
 use mathlib.Core.List.{List, [], _∷_, _++_}
 use lib.ListN.{length, take, drop}
 use Rattle.text.specs.Ascii.{ascii}
-use Rattle.text.specs.Digits.{decimal, decimalIn}
+use Rattle.text.specs.Digits.{decimal, decimals, decimalIn}
 use Rattle.text.specs.Puts.{Puts}
 use Rattle.line.specs.Line.{Emitted, refusal, frame, run, after}
 use Rattle.line.specs.declared.Receiver.{Receiver}
@@ -37,6 +37,12 @@ eventText Nothing = []
 eventText (Frame major minor wrapper len) = frameLine wrapper len
 eventText (Refused n place) = refusedLine n place
 
+-- an event with all its numbers: frame MAJOR MINOR TYPE LENGTH, refused N PLACE
+abbrev pub eventNumbers : Event → List ℕ
+eventNumbers Nothing = []
+eventNumbers (Frame major minor wrapper len) = ascii " frame" ++ decimals (major ∷ minor ∷ wrapper ∷ len ∷ [])
+eventNumbers (Refused n place) = ascii " refused" ++ decimals (n ∷ place ∷ [])
+
 -- the lines of all that is handed out
 unfoldable pub linesOf : List Emitted → List ℕ
 linesOf [] = []
@@ -55,7 +61,7 @@ pub record Lists (s : List ℕ) (from : ℕ) (r : Receiver) (to : ℕ) (r′ : R
   pub puts : Puts (linesOf (run (between from to s) r)) 0 room at left
   pub whole : at ≡ length (linesOf (run (between from to s) r))
 
--- ---- frame 128 507, frame 0 3, refused 2 208
+-- ---- frame 128 507, frame 0 3, frame 1 0 128 507, refused 2 208
 example-long : eventText (Frame 1 0 128 507) ≡ ascii "frame 128 507\n"
 unfolding decimalIn
 example-long = refl
@@ -63,6 +69,10 @@ example-long = refl
 example-short : eventText (Frame 1 0 0 3) ≡ ascii "frame 0 3\n"
 unfolding decimalIn
 example-short = refl
+
+example-numbers : eventNumbers (Frame 1 0 128 507) ≡ ascii " frame 1 0 128 507"
+unfolding decimalIn decimals
+example-numbers = refl
 
 example-refused : eventText (Refused 2 208) ≡ ascii "refused 2 208\n"
 unfolding decimalIn

@@ -6,7 +6,7 @@ ghost use lib.ListN.{length};
 ghost use Rattle.text.specs.Puts.{Puts};
 ghost use Rattle.line.specs.Receive.{holding};
 ghost use Rattle.line.specs.Line.{after};
-ghost use Rattle.listing.specs.Listing.{eventWords, eventText, Lists};
+ghost use Rattle.listing.specs.Listing.{eventWords, eventText, eventNumbers, Lists};
 use libc::STDERR_FILENO;
 use libc::STDIN_FILENO;
 use libc::STDOUT_FILENO;
@@ -53,6 +53,30 @@ pub fn event_line(out: &mut [u8], at: usize, e: Event) -> usize
             number: _,
             place: _,
         } => text::put(out, behind, b"\n"),
+    }
+}
+
+// ` frame MAJOR MINOR TYPE LENGTH` or ` refused N PLACE`, nothing where there is no event.
+pub fn event_numbers(out: &mut [u8], at: usize, e: Event) -> usize
+    ensures { λ r. ⌜ Puts (eventNumbers e) at (now (out .entry)) r (now (out .exit)) ⌝ }
+{
+    match e {
+        Event::Nothing => at,
+        Event::Frame {
+            major,
+            minor,
+            wrapper,
+            len,
+        } => {
+            let numbers = [major as u64, minor as u64, wrapper as u64, len as u64];
+            let behind = text::put(out, at, b" frame");
+            text::decimals(out, behind, &numbers)
+        }
+        Event::Refused { number, place } => {
+            let numbers = [number as u64, place as u64];
+            let behind = text::put(out, at, b" refused");
+            text::decimals(out, behind, &numbers)
+        }
     }
 }
 

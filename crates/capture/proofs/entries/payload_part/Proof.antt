@@ -1,7 +1,5 @@
 -- `payload_part` meets its contract. Assumes nothing.
-use mathlib.Core.Path.{ap, _∙_}
 use borrow.Author.Needs.{needs}
-use Rattle.capture.specs.Entry.{payloadLength}
 use Rattle.capture.proofs.Packing.{part-above, part-missing, part-there}
 use Rattle.capture.proofs.entries.payload_part.Statement.{statement}
 use Rattle.capture.proofs.entries.payload_part.Tie as tie
@@ -19,10 +17,10 @@ returns-2 c =
 
 returns-3 : tie.Need-returns-3
 returns-3 c =
-    let b = c .before .before .before in
+    let b = c .before .before in
     let a = b .before .before .before .before .args in
-    part-there (a .list .now) (a .k) (b .before .before .if1 .left) (b .payload-total2 .result) (c .payload-length .result) (b .payload-total2 .ensures)
-    (c .payload-length .ensures ∙ ap payloadLength (c .before .event-of .ensures))
+    part-there (a .list .now) (a .k) (b .before .before .if1 .left) (b .payload-total2 .result) (c .length-of .result) (b .payload-total2 .ensures)
+    (c .length-of .ensures .0)
 
 pub payload-part-spec : {M : Type 1} → statement M
 payload-part-spec =
@@ -34,6 +32,5 @@ payload-part-spec =
     (λ c κs. search needs)
     (λ c. search needs)
     (λ c. search needs)
-    (λ c κs. search needs)
     (λ c κs. search needs)
     returns-3)
