@@ -42,6 +42,17 @@ captureRules capture list buffer =
     ∷ noRoom 0 (payloadsOf capture) buffer
     ∷ []
 
+-- the answer, by the cases of the enum; and the list and the buffer after it: a refusal leaves both as they were, and every other number
+-- and byte stays
+abbrev pub answerOf : List ℕ → List ℕ → List ℕ → Decoded
+answerOf capture list buffer = judge Refused (captureRules capture list buffer) (Events (length (entriesOf capture)) (length (payloadsOf capture)))
+
+abbrev pub listAfter : List ℕ → List ℕ → List ℕ → List ℕ
+listAfter capture list buffer = judge (λ n. list) (captureRules capture list buffer) (placed 0 (entriesOf capture) list)
+
+abbrev pub bufferAfter : List ℕ → List ℕ → List ℕ → List ℕ
+bufferAfter capture list buffer = judge (λ n. buffer) (captureRules capture list buffer) (placed 0 (payloadsOf capture) buffer)
+
 -- an answer's numbers: how many entries and how many payload bytes, or the refusal's
 abbrev pub decodedNumber : Decoded → Judged (List ℕ) ℕ
 decodedNumber (Events entries bytes) = accepted (entries ∷ bytes ∷ [])
@@ -52,11 +63,9 @@ pub record Decodes (capture list buffer : List ℕ) (answer : Decoded) (list′ 
   pub number :
       decodedNumber answer
       ≡ judge refused (captureRules capture list buffer) (accepted (length (entriesOf capture) ∷ length (payloadsOf capture) ∷ []))
-  -- the answer by the cases of the enum
-  pub answers : answer ≡ judge Refused (captureRules capture list buffer) (Events (length (entriesOf capture)) (length (payloadsOf capture)))
-  -- a refusal leaves both as they were; every other number and byte stays
-  pub lists : list′ ≡ judge (λ n. list) (captureRules capture list buffer) (placed 0 (entriesOf capture) list)
-  pub stores : buffer′ ≡ judge (λ n. buffer) (captureRules capture list buffer) (placed 0 (payloadsOf capture) buffer)
+  pub answers : answer ≡ answerOf capture list buffer
+  pub lists : list′ ≡ listAfter capture list buffer
+  pub stores : buffer′ ≡ bufferAfter capture list buffer
 
 -- ---- how much room suffices: as many entries, and as many bytes, as the capture has bytes
 abbrev pub RoomsSuffice : Type 0
