@@ -49,11 +49,11 @@ def lines():
 
 
 def rooms():
-    """Answers of one entry and 3 bytes, 2 entries and 0 bytes, 3 entries and 22 bytes."""
+    """Answers of one entry and 3 bytes, 2 entries and 0 bytes, 3 entries and 22 bytes; rooms about as long, and longer than the capture."""
     three = written(b"\x01\x02").hex() + "7e5c00" + written(b"\x03" * 20).hex()
     for capture, entries, size in ((HELLO, 1, 3), ("7e7e5c41", 2, 0), (three, 3, 22)):
-        for e in (entries - 1, entries, entries + 1):
-            for b in (0, size - 1, size, size + 1, 40):
+        for e in (entries - 1, entries, entries + 1, 64):
+            for b in (0, size - 1, size, size + 1, 64):
                 if b >= 0:
                     yield f"{entries} entries and {size} bytes, rooms {e} {b}", capture, f"{e}|{b}"
 

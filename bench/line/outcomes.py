@@ -192,7 +192,7 @@ def decoder_outcome(entries, room, data):
     each = [lists[k:k + 8].hex() for k in range(0, len(lists), 8)]
     said += "; list" + ("".join(" " + e for e in each) if len(each) <= 8 else " CRC " + crc(lists).hex())
     said += "; buffer " + (buffer.hex() if len(buffer) <= 64 else "CRC " + crc(buffer).hex())
-    return said + ("; receiver same" if len(answer) == 2 else "")
+    return said + ("; receiver same; lister same" if len(answer) == 2 else "")
 
 
 def lister_line(event):

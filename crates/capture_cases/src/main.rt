@@ -1,5 +1,5 @@
-// Captures through the decoder: what it answers, what its list and its buffer hold afterwards, and whether the receiver, fed byte by byte from
-// fresh, hands out the same.
+// Captures through the decoder: what it answers, what its list and its buffer hold afterwards, whether the receiver, fed byte by byte from
+// fresh, hands out the same, and whether the lister prints the same lines.
 //
 // A line of standard input has fields with | between:
 //   LABEL|LIST|BUFFER|BYTES   a capture, with a list of so many entries and a buffer of so many bytes, all their bytes EE
@@ -153,14 +153,50 @@ fn receiver_same(s: &[u8], list: &[u64], buffer: &[u8]) -> bool
     c.same & (c.entries == list.len())
 }
 
-// `; receiver same`, or that it differs.
-fn receiver_text(out: &mut [u8], at: usize, s: &[u8], list: &[u64], buffer: &[u8]) -> usize {
-    if s.len() <= 65536 {
-        if receiver_same(s, list, buffer) {
-            return text::put(out, at, b"; receiver same");
-        }
+// Room for the lister's lines: at most 12 bytes for each of a capture's.
+fn lines_room() -> [u8; 786500]
+    ensures { λ r. ⌜ 786500 ≡ length r ⌝ }
+{
+    [0; 786500]
+}
+
+// The lister's lines of the entries' events.
+fn lines(out: &mut [u8], list: &[u64]) -> usize {
+    let mut at: usize = 0;
+    let mut k: usize = 0;
+    while k < list.len() {
+        at = listing::event_line(out, at, capture::event_of(list[k]));
+        k += 1;
     }
-    text::put(out, at, b"; receiver differs")
+    at
+}
+
+// Whether the lister prints these lines for the capture.
+fn lister_same(s: &[u8], list: &[u64]) -> bool {
+    let mut listed = lines_room();
+    let fresh = line::fresh();
+    let mut store = fresh.store;
+    let l = listing::list_some(fresh.progress, &mut store, s, 0, &mut listed);
+    let mut decoded = lines_room();
+    let n = lines(&mut decoded, list);
+    check::same(front(&listed, l.at), front(&decoded, n))
+}
+
+fn verdict(out: &mut [u8], at: usize, name: &[u8], same: bool) -> usize {
+    let behind = text::put(out, at, name);
+    if same {
+        return text::put(out, behind, b" same");
+    }
+    text::put(out, behind, b" differs")
+}
+
+// Whether receiver and lister say what the entries do.
+fn verdicts(out: &mut [u8], at: usize, s: &[u8], list: &[u64], buffer: &[u8]) -> usize {
+    if 65536 < s.len() {
+        return at;
+    }
+    let behind = verdict(out, at, b"; receiver", receiver_same(s, list, buffer));
+    verdict(out, behind, b"; lister", lister_same(s, list))
 }
 
 // The entries of a list, one by one.
@@ -224,7 +260,7 @@ fn first(list: &[u64], n: usize) -> &[u64] {
     &list[..n]
 }
 
-// What the decoder answered and left, and whether the receiver hands out the same.
+// What the decoder answered and left, and whether receiver and lister say the same.
 fn answer(out: &mut [u8], at: usize, s: &[u8], d: Decoded, list: &[u64], buffer: &[u8]) -> usize {
     match d {
         Decoded::Events { entries, bytes } => {
@@ -233,7 +269,7 @@ fn answer(out: &mut [u8], at: usize, s: &[u8], d: Decoded, list: &[u64], buffer:
             let found = first(list, entries);
             let told = events(out, start, found, buffer);
             let end = rooms(out, told, list, buffer);
-            receiver_text(out, end, s, found, buffer)
+            verdicts(out, end, s, found, buffer)
         }
         Decoded::Refused(n) => {
             let behind = text::named(out, at, b" refused ", n as u64);
