@@ -10,4 +10,5 @@ pub mod Packing
 pub mod Filling
 pub mod Rooms
 pub mod Judging
+pub mod Unpacking
 pub mod Reading

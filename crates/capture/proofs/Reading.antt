@@ -1,6 +1,6 @@
 -- What stands in list and buffer, read back. Assumes nothing.
 use mathlib.Core.Path.{_≡_, refl, sym, ap, ap₂, _∙_, subst}
-use mathlib.Core.List.{List, [], _∷_, _++_, append-assoc, append-nil, map, flatten}
+use mathlib.Core.List.{List, [], _∷_, _++_, append-assoc, map, flatten}
 use mathlib.Core.Bool.{Bool, true, false, _||_}
 use Prim.Native.Nat.{ℕ, zero, suc, _+_, _-_, _≤_, _<_}
 use native.Mathlib.Omega.{arith}
@@ -8,13 +8,10 @@ use lib.ListN.{length, take, drop, getD, length-append, List·getD-append, List�
 use lib.Seq.{split-at, take-append-le, take-at, drop-at}
 use lib.Bits.{bitXor, xor-lt}
 use lib.Dec.{eqb, ltb}
-use borrow.Author.Tests.{ne-eqb, le-leb, lt-ltb, le-ltb, ltb-false}
+use borrow.Author.Tests.{le-ltb, ltb-false}
 use Rattle.wire.specs.Choice.{pick}
 use Rattle.wire.specs.Numbers.{num}
-use Rattle.wire.specs.Fields.{encode, valuesAt, unfit}
 use Rattle.wire.proofs.Choice.{pick-all}
-use Rattle.wire.proofs.Numbers.{le-num}
-use Rattle.wire.proofs.Fields.{values-back}
 use Rattle.wire.proofs.Lists.{part-in}
 use Rattle.wire.specs.Parts.{part, partOf}
 use Rattle.wire.specs.Rules.{Rule, verdict, firstBroken}
@@ -25,22 +22,18 @@ use Rattle.line.specs.Receive.{within, freshReceiver}
 use Rattle.line.specs.Line.{Emitted, refusal, frame}
 use Rattle.capture.specs.Ahead.{Ahead, whole, start, badEscape, end, before, behindEscape, ahead}
 use Rattle.capture.specs.Capture.{found, checked, sized, behindStart, Found, foundAt, foundFrom, decoded}
-use Rattle.capture.specs.Entry.{entryFields, packed, entry, valuesOf, eventBy, eventOf, offsetOf, payloadLength, payloadTotal, payloadPart}
+use Rattle.capture.specs.Entry.{entry, told, eventOf, offsetOf, payloadLength, payloadTotal, payloadPart}
 use Rattle.capture.specs.Decoding.{payloadOf, entriesIn, entriesOf, payloadsIn, payloadsOf, captureRules}
 use Rattle.capture.specs.Agreement.{handedOut}
-use Rattle.capture.specs.Reading.{Bytes, told, none, Reads, ReadsBack}
+use Rattle.capture.specs.Reading.{Bytes, none, Reads, ReadsBack}
 use Rattle.capture.specs.declared.Decoded.the-variants.{Events, Refused}
+use Rattle.capture.proofs.Unpacking.{byte-at, entry-back}
 use Rattle.capture.proofs.Agreement.{agreement}
 use Rattle.capture.proofs.Finding.{AsEvent, Each, behind-start-each}
 use Rattle.capture.proofs.Filling.{payloads-append}
 use Rattle.capture.proofs.Rooms.{rooms-suffice}
 
 -- ---- bytes stay bytes
-byte-at : (bs : List ℕ) → Bytes bs → (i : ℕ) → getD bs i 0 < 256
-byte-at [] h i = omega arith
-byte-at (b ∷ bs) h zero = h .0
-byte-at (b ∷ bs) h (suc i) = byte-at bs (h .1) i
-
 BytesAhead : Ahead → Type 0
 BytesAhead (whole n vs rest) = Bytes vs × Bytes rest
 BytesAhead (start n) = Unit {0}
@@ -133,32 +126,16 @@ record Unpacks (f : Found) : Type 0 where
   offset : offsetOf (entry f) ≡ f .offset
   long : payloadLength (told (f .event)) ≡ length (payloadOf f)
 
--- the fields of an entry are read as they were put
-values-of : (kind count major minor wrapper offset : ℕ) → kind < 256 → count < 65536 → major < 256 → minor < 256 → wrapper < 256 → offset < 65536
-    → valuesOf (packed (kind ∷ count ∷ major ∷ minor ∷ wrapper ∷ offset ∷ [])) ≡ kind ∷ count ∷ major ∷ minor ∷ wrapper ∷ offset ∷ []
-values-of kind count major minor wrapper offset hk hc ha hi hw ho =
-    let vs : List ℕ = kind ∷ count ∷ major ∷ minor ∷ wrapper ∷ offset ∷ [] in
-    let bs : List ℕ = encode entryFields vs in
-    let u : unfit entryFields vs ≡ false = simp (lt-ltb _ _ hk, lt-ltb _ _ hc, lt-ltb _ _ ha, lt-ltb _ _ hi, lt-ltb _ _ hw, lt-ltb _ _ ho) in
-    let h : Bytes bs = (hk, (omega arith, (omega arith, (ha, (hi, (hw, (omega arith, (omega arith, tt)))))))) in
-    ap (valuesAt entryFields 0) (le-num bs (byte-at bs h) 8 0 (omega arith) ∙ sym (append-nil bs)) ∙ values-back entryFields vs [] [] 0 refl u
-
 unpacks : (offset : ℕ) (e : Emitted) → Packs 65536 (foundAt offset e) → Unpacks (foundAt offset e)
-unfolding eventBy
 unpacks offset (refusal n place) h =
     let l = h .event in
-    let v = values-of n place 0 0 0 offset (omega (arith, l .1)) (omega (arith, l .3)) (omega arith) (omega arith) (omega arith) (h .offset) in
-    let five : n ≡ 5 → ⊥ = omega (arith, l .1) in
-    record {
-      event = ap (λ (vs : List ℕ). eventBy (getD vs 0 0) vs) v ∙ simp (ne-eqb _ _ five, le-leb _ _ (l .0), le-leb _ _ (l .1));
-      offset = ap (λ (vs : List ℕ). getD vs 5 0) v;
-      long = refl;
-    }
+    let b = entry-back offset (refusal n place) (h .offset) (l .0, l .1, omega (arith, l .3)) in
+    record { event = b .0; offset = b .1; long = refl }
 unpacks offset (frame major minor wrapper len payload) h =
     let l = h .event in
     let f = h .fields in
-    let v = values-of 5 len major minor wrapper offset (omega arith) (omega (arith, l .0)) (f .0) (f .1) (f .2) (h .offset) in
-    record { event = ap (λ (vs : List ℕ). eventBy (getD vs 0 0) vs) v; offset = ap (λ (vs : List ℕ). getD vs 5 0) v; long = sym (l .1) }
+    let b = entry-back offset (frame major minor wrapper len payload) (h .offset) (f .0, f .1, f .2, omega (arith, l .0)) in
+    record { event = b .0; offset = b .1; long = sym (l .1) }
 
 -- ---- the list and the buffer
 -- the payloads of some events, by their entries

@@ -1,5 +1,5 @@
 -- An event as an entry of the lent list, one number of 64 bits, and back.
-use Prim.Native.Nat.{ℕ, _+_}
+use Prim.Native.Nat.{ℕ, _+_, _≤_, _<_}
 use mathlib.Core.Path.{_≡_, refl}
 use mathlib.Core.Bool.{_&&_}
 use mathlib.Core.List.{List, [], _∷_}
@@ -46,6 +46,21 @@ eventOf n = eventBy (getD (valuesOf n) 0 0) (valuesOf n)
 
 abbrev pub offsetOf : ℕ → ℕ
 offsetOf n = getD (valuesOf n) 5 0
+
+-- ---- the law that it gives the event packed (proofs/Unpacking.antt)
+-- an event without its payload
+abbrev pub told : Emitted → Event
+told (refusal n place) = Refused n place
+told (frame major minor wrapper len payload) = Frame major minor wrapper len
+
+-- what an entry has room for
+abbrev pub Packable : Emitted → Type 0
+Packable (refusal n place) = (1 ≤ n) × (n ≤ 4) × (place < 65536)
+Packable (frame major minor wrapper len payload) = (major < 256) × (minor < 256) × (wrapper < 256) × (len < 65536)
+
+abbrev pub EntryBack : Type 0
+EntryBack = (offset : ℕ) (e : Emitted) → offset < 65536 → Packable e
+    → (eventOf (entry (foundAt offset e)) ≡ told e) × (offsetOf (entry (foundAt offset e)) ≡ offset)
 
 -- ---- where payloads lie in the lent buffer, one behind the other
 abbrev pub payloadLength : Event → ℕ

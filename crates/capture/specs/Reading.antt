@@ -5,12 +5,10 @@ use mathlib.Core.List.{List, [], _∷_}
 use lib.ListN.{length, getD}
 use Rattle.wire.specs.Parts.{partOf}
 use Rattle.line.specs.Receive.{freshReceiver}
-use Rattle.line.specs.Line.{Emitted, refusal, frame}
-use Rattle.line.specs.declared.Event.{Event}
-use Rattle.line.specs.declared.Event.the-variants.{Frame, Refused}
+use Rattle.line.specs.Line.{refusal}
 use Rattle.capture.specs.Capture.{Found, foundAt}
 use Rattle.capture.specs.Agreement.{handedOut}
-use Rattle.capture.specs.Entry.{eventOf, offsetOf, payloadPart}
+use Rattle.capture.specs.Entry.{told, eventOf, offsetOf, payloadPart}
 use Rattle.capture.specs.Decoding.{payloadOf, Decodes}
 use Rattle.capture.specs.declared.Decoded.the-variants.{Events}
 
@@ -18,11 +16,6 @@ use Rattle.capture.specs.declared.Decoded.the-variants.{Events}
 abbrev pub Bytes : List ℕ → Type 0
 Bytes [] = Unit {0}
 Bytes (b ∷ bs) = (b < 256) × Bytes bs
-
--- an event without its payload
-abbrev pub told : Emitted → Event
-told (refusal n place) = Refused n place
-told (frame major minor wrapper len payload) = Frame major minor wrapper len
 
 -- an entry of the list, counted from 0, with the buffer beside it: the event, the offset of its start byte, and its payload
 pub record Reads (list buffer : List ℕ) (k : ℕ) (f : Found) : Type 0 where
