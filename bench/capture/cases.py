@@ -27,11 +27,14 @@ def lines():
     yield "hello, noise, size 0", HELLO + "417e0000"
     yield "cut by a start byte", "7e080001" + HELLO
     yield "start after start", "7e" + HELLO
-    yield "5C 7E", "7e085c" + HELLO
+    yield "5C 7E in the size's low byte", "7e5c" + HELLO
+    yield "5C 7E in the size's high byte", "7e085c" + HELLO
+    yield "5C 7E 7E", "7e085c7e" + HELLO
     yield "5C 5C", "7e5c5c" + HELLO
     yield "5C 41", "7e5c41" + HELLO
     yield "5C 41 in the size's high byte", "7e085c41" + HELLO
-    yield "5C 7E in the size's high byte", "7e085c7e" + HELLO
+    yield "ends behind 5C in the size's low byte", "7e5c"
+    yield "ends behind 5C in the size's high byte", "7e085c"
     yield "size 0", "7e0000" + HELLO
     yield "size 4", "7e0400" + HELLO
     yield "size 513", "7e0102" + HELLO
@@ -53,13 +56,13 @@ def rooms():
     three = written(b"\x01\x02").hex() + "7e5c00" + written(b"\x03" * 20).hex()
     for capture, entries, size in ((HELLO, 1, 3), ("7e7e5c41", 2, 0), (three, 3, 22)):
         for e in (entries - 1, entries, entries + 1, 64):
-            for b in (0, size - 1, size, size + 1, 64):
+            for b in sorted({0, size - 1, size, size + 1, 64}):
                 if b >= 0:
                     yield f"{entries} entries and {size} bytes, rooms {e} {b}", capture, f"{e}|{b}"
 
 
 def escapes():
-    """A byte that is escaped, a 7E, a 5C 7E and a 5C 41 at each place of a frame, the last of its CRC among them; the same at the end."""
+    """A byte that is escaped, a 7E, a 5C 7E and a 5C 41 behind 0 to 34 payload bytes, and at the last byte of the CRC; captures that end there."""
     # a CRC whose last byte goes out as 5C 3E
     last = next(p for n in range(65536) if written(p := n.to_bytes(2, "little") + b"\x01" * 30)[-2:] == b"\x5c\x3e")
     frame = written(last)
@@ -86,12 +89,14 @@ def escapes():
 def long():
     """The limits of a payload and of a capture."""
     high = "7e0002010000+01*507+634d"
+    yield "size 126, which is escaped", written(b"\x11" * 121).hex(), "1|121"
+    yield "size 92, which is escaped", written(b"\x11" * 87).hex(), "1|87"
     yield "size 512", high, "1|507"
     yield "size 512, a byte short of room", high, "1|506"
     yield "size 512, all of the payload escaped", written(b"\x7e\x5c" * 253 + b"\x7e", 128).hex(), "2|600"
     yield "size 512, wrong CRC", "7e0002010000+01*507+634e", "2|600"
     yield "size 512, a 7E as its last byte", "7e0002010000+01*507+637e080001+00*5+b04b", "2|600"
-    yield "place 1029", "7e0002" + "5c3e" * 510 + "5c3e5c41", "2|600"
+    yield "place 1027, the greatest there is", "7e0002" + "5c3e" * 510 + "5c3e5c41", "2|600"
     yield "65,536 bytes 7E", "7e*65536", "65535|0"
     yield "65,536 bytes 7E, an entry short of room", "7e*65536", "65534|0"
     yield "65,536 bytes 7E, more room", "7e*65536", "65600|65600"

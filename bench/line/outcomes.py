@@ -216,16 +216,27 @@ def decoder_line(offset, event):
     return line + (f": {payload[:32].hex()}" if payload else "") + (".." if len(payload) > 32 else "")
 
 
-def main():
-    mode = "".join(sys.argv[1:])
-    if mode in ("list", "decode"):
-        for offset, event in receive(IDLE, bytearray(512), sys.stdin.buffer.read())[0]:
-            print(lister_line(event) if mode == "list" else decoder_line(offset, event))
-        print("end")
+def events_of(mode):
+    """The lines of a capture; of one that is too long the decoder prints none."""
+    data = sys.stdin.buffer.read()
+    if mode == "decode" and len(data) > 65536:
         return
+    for offset, event in receive(IDLE, bytearray(512), data)[0]:
+        print(lister_line(event) if mode == "list" else decoder_line(offset, event))
+    print("end")
+
+
+def main():
+    mode = " ".join(sys.argv[1:])
+    if mode in ("list", "decode"):
+        events_of(mode)
+        return
+    outcomes = {"": outcome, "capture": decoder_outcome}
+    if mode not in outcomes:
+        sys.exit("usage: outcomes.py [list|decode|capture]")
     for line in sys.stdin.read().splitlines():
         label, *fields = line.split("|")
-        print(label + ":" + (decoder_outcome if mode == "capture" else outcome)(*fields))
+        print(label + ":" + outcomes[mode](*fields))
 
 
 if __name__ == "__main__":

@@ -6,12 +6,12 @@ use native.Mathlib.Omega.{arith}
 use lib.Bits.{xor-lt}
 use lib.Dec.{T, lit<, ltb, ltb→lt}
 use lib.ListN.{getD}
+use Rattle.wire.specs.Numbers.{Bytes}
 use Rattle.wire.proofs.Table.{every, and-left, and-right}
 use Rattle.aes.specs.Field.{_⊕_, xtime, digitTimes, times, _•_}
 use Rattle.aes.specs.Box.{powers, inverse, turned, affine, subByte, invAffine, invSubByte}
 use Rattle.aes.specs.Cipher.{four, rows, cell, ofState, mixed, word, xorWord, rotWord, subWord, chained, rcon, nextKey, roundKey, from, keyExpansion}
 use Rattle.aes.specs.InvCipher.{invMixed}
-use Rattle.aes.specs.Inverse.{Bytes}
 use Rattle.aes.specs.Packed.{timesX}
 use Rattle.aes.proofs.Turns.{digit-fits}
 

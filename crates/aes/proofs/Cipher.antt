@@ -7,7 +7,7 @@ use Rattle.aes.specs.Field.{_⊕_}
 use Rattle.aes.specs.Box.{subByte}
 use Rattle.aes.specs.Cipher.{cell, toState, addRoundKey, rounds, from, roundKey, keyExpansion, cipherUnder, cipher}
 use Rattle.aes.specs.InvCipher.{invCipherUnder, invCipher}
-use Rattle.aes.specs.Inverse.{Bytes}
+use Rattle.wire.specs.Numbers.{Bytes}
 use Rattle.aes.proofs.Bytes.{xor-byte, sub-byte, state-bytes, key-bytes}
 
 -- under the key's round keys

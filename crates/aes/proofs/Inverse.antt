@@ -9,7 +9,8 @@ use Rattle.aes.specs.Field.{_⊕_}
 use Rattle.aes.specs.Box.{subByte, invSubByte}
 use Rattle.aes.specs.Cipher.{cell, rows, columns, from, toState, ofState, subBytes, shiftRows, mixed, mixColumns, addRoundKey, round, rounds, keyExpansion, cipherUnder, cipher}
 use Rattle.aes.specs.InvCipher.{invSubBytes, invShiftRows, invMixed, invMixColumns, invRound, invRounds, invCipherUnder, invCipher}
-use Rattle.aes.specs.Inverse.{Bytes, SixteenBytes, BothWays}
+use Rattle.wire.specs.Numbers.{Bytes}
+use Rattle.aes.specs.Inverse.{SixteenBytes, BothWays}
 use Rattle.aes.proofs.Box.{inv-sub, sub-inv}
 use Rattle.aes.proofs.Bytes.{xor-byte, sub-byte, inv-sub-byte, mixed-byte, inv-mixed-byte, rows-bytes, state-bytes, expansion-bytes}
 use Rattle.aes.proofs.Filled.{places}

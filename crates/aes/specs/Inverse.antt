@@ -1,14 +1,11 @@
 -- Document 02 §3: deciphering undoes enciphering for every key and block, and the other way round. The statement; proofs/Inverse.antt proves it.
-use Prim.Native.Nat.{ℕ, _<_}
+use Prim.Native.Nat.{ℕ}
 use mathlib.Core.Path.{_≡_}
 use mathlib.Core.List.{List}
-use lib.ListN.{length, getD}
+use lib.ListN.{length}
+use Rattle.wire.specs.Numbers.{Bytes}
 use Rattle.aes.specs.Cipher.{cipher}
 use Rattle.aes.specs.InvCipher.{invCipher}
-
--- every element is a byte
-abbrev pub Bytes : List ℕ → Type 0
-Bytes l = (i : ℕ) → getD l i 0 < 256
 
 -- a key, or a block
 pub record SixteenBytes (l : List ℕ) : Type 0 where

@@ -16,10 +16,10 @@ use Rattle.line.specs.declared.Event.{Event}
 use Rattle.line.specs.declared.Event.the-variants.{Nothing, Frame, Refused}
 use Rattle.capture.specs.Capture.{Found, foundAt, foundFrom, decoded}
 use Rattle.capture.specs.Entry.{packed, entry, payloadLength}
-use Rattle.capture.specs.Decoding.{entriesIn, entriesOf, payloadOf, payloadsIn, payloadsOf}
-use Rattle.capture.specs.Looking.{Fits, Looks, seenIn, eventCount, Room, PutsEvent, CountsOf}
+use Rattle.capture.specs.Answer.{entriesIn, entriesOf, foundPayload, payloadsIn, payloadsOf}
+use Rattle.capture.specs.Looking.{Fits, Looks, foundIn, eventCount, Room, PutsEvent, CountsOf}
 use Rattle.capture.proofs.Finding.{none-left}
-use Rattle.capture.specs.declared.ahead.Seen.{Seen}
+use Rattle.capture.specs.declared.ahead.NextEvent.{NextEvent}
 
 pub entries-append : (fs gs : List Found) → entriesIn (fs ++ gs) ≡ entriesIn fs ++ entriesIn gs
 entries-append [] gs = refl
@@ -28,7 +28,7 @@ entries-append (f ∷ fs) gs = ap (λ (z : List ℕ). entry f ∷ z) (entries-ap
 pub payloads-append : (fs gs : List Found) → payloadsIn (fs ++ gs) ≡ payloadsIn fs ++ payloadsIn gs
 unfolding flatten
 payloads-append [] gs = refl
-payloads-append (f ∷ fs) gs = ap (λ (z : List ℕ). payloadOf f ++ z) (payloads-append fs gs) ∙ sym (append-assoc (payloadOf f) (payloadsIn fs) (payloadsIn gs))
+payloads-append (f ∷ fs) gs = ap (λ (z : List ℕ). foundPayload f ++ z) (payloads-append fs gs) ∙ sym (append-assoc (foundPayload f) (payloadsIn fs) (payloadsIn gs))
 
 -- ---- what an event adds
 events-at : ℕ → Event → List ℕ → List Found
@@ -46,31 +46,31 @@ payload-count offset Nothing store h = refl
 payload-count offset (Frame major minor wrapper len) store h = ap length (append-nil (framePayload len store)) ∙ h .1
 payload-count offset (Refused n place) store h = refl
 
--- ---- what is seen, and what stands behind it
-module _ {s : List ℕ} {from : ℕ} {seen : Seen} {store : List ℕ} (h : Looks s from seen store) where
+-- ---- what is found, and what stands behind it
+module _ {s : List ℕ} {from : ℕ} {found : NextEvent} {store : List ℕ} (h : Looks s from found store) where
   abbrev rest : List Found
-  rest = foundFrom (seen .next) (drop (seen .next) s)
+  rest = foundFrom (found .next) (drop (found .next) s)
 
-  pub entries-are : entriesIn (foundFrom from (drop from s)) ≡ entriesIn (seenIn seen store) ++ entriesIn rest
-  entries-are = ap entriesIn (h .events) ∙ entries-append (seenIn seen store) rest
+  pub entries-are : entriesIn (foundFrom from (drop from s)) ≡ entriesIn (foundIn found store) ++ entriesIn rest
+  entries-are = ap entriesIn (h .events) ∙ entries-append (foundIn found store) rest
 
-  pub payloads-are : payloadsIn (foundFrom from (drop from s)) ≡ payloadsIn (seenIn seen store) ++ payloadsIn rest
-  payloads-are = ap payloadsIn (h .events) ∙ payloads-append (seenIn seen store) rest
+  pub payloads-are : payloadsIn (foundFrom from (drop from s)) ≡ payloadsIn (foundIn found store) ++ payloadsIn rest
+  payloads-are = ap payloadsIn (h .events) ∙ payloads-append (foundIn found store) rest
 
-  pub entries-seen : length (entriesIn (seenIn seen store)) ≡ eventCount (seen .event)
+  pub entries-seen : length (entriesIn (foundIn found store)) ≡ eventCount (found .event)
   unfolding events-at
-  entries-seen = entry-count (seen .offset) (seen .event) store
+  entries-seen = entry-count (found .offset) (found .event) store
 
-  pub payloads-seen : length (payloadsIn (seenIn seen store)) ≡ payloadLength (seen .event)
+  pub payloads-seen : length (payloadsIn (foundIn found store)) ≡ payloadLength (found .event)
   unfolding events-at
-  payloads-seen = payload-count (seen .offset) (seen .event) store (h .fits)
+  payloads-seen = payload-count (found .offset) (found .event) store (h .fits)
 
   -- how many are left
-  pub entries-left : length (entriesIn (foundFrom from (drop from s))) ≡ eventCount (seen .event) + length (entriesIn rest)
-  entries-left = ap length entries-are ∙ length-append (entriesIn (seenIn seen store)) (entriesIn rest) ∙ ap (λ (k : ℕ). k + length (entriesIn rest)) entries-seen
+  pub entries-left : length (entriesIn (foundFrom from (drop from s))) ≡ eventCount (found .event) + length (entriesIn rest)
+  entries-left = ap length entries-are ∙ length-append (entriesIn (foundIn found store)) (entriesIn rest) ∙ ap (λ (k : ℕ). k + length (entriesIn rest)) entries-seen
 
-  pub payloads-left : length (payloadsIn (foundFrom from (drop from s))) ≡ payloadLength (seen .event) + length (payloadsIn rest)
-  payloads-left = ap length payloads-are ∙ length-append (payloadsIn (seenIn seen store)) (payloadsIn rest) ∙ ap (λ (k : ℕ). k + length (payloadsIn rest)) payloads-seen
+  pub payloads-left : length (payloadsIn (foundFrom from (drop from s))) ≡ payloadLength (found .event) + length (payloadsIn rest)
+  payloads-left = ap length payloads-are ∙ length-append (payloadsIn (foundIn found store)) (payloadsIn rest) ∙ ap (λ (k : ℕ). k + length (payloadsIn rest)) payloads-seen
 
 -- a payload has at most 507 bytes
 length-of : (e : Event) (store : List ℕ) → Fits e store → payloadLength e ≤ 507
@@ -78,8 +78,8 @@ length-of Nothing store h = omega arith
 length-of (Frame major minor wrapper len) store h = h .0
 length-of (Refused n place) store h = omega arith
 
-pub length-limit : {s : List ℕ} {from : ℕ} {seen : Seen} {store : List ℕ} → Looks s from seen store → payloadLength (seen .event) ≤ 507
-length-limit {seen = seen} {store} h = length-of (seen .event) store (h .fits)
+pub length-limit : {s : List ℕ} {from : ℕ} {found : NextEvent} {store : List ℕ} → Looks s from found store → payloadLength (found .event) ≤ 507
+length-limit {found = found} {store} h = length-of (found .event) store (h .fits)
 
 -- ---- going through a capture
 -- up to an offset: how many entries and payload bytes there were, with those that are left
@@ -93,8 +93,8 @@ pub record Left (s : List ℕ) (i entries bytes : ℕ) : Type 0 where
 pub left-start : (s : List ℕ) → Left s 0 0 0
 left-start s = record { within = omega arith; entries-low = omega arith; bytes-low = omega arith; entries-all = omega arith; bytes-all = omega arith }
 
-pub left-next : {s : List ℕ} {i entries bytes : ℕ} {seen : Seen} {store : List ℕ} {n m : ℕ} → i < length s → Left s i entries bytes → Looks s i seen store
-    → (n ≡ eventCount (seen .event)) × (n ≤ 1) → m ≡ payloadLength (seen .event) → Left s (seen .next) (entries + n) (bytes + m)
+pub left-next : {s : List ℕ} {i entries bytes : ℕ} {found : NextEvent} {store : List ℕ} {n m : ℕ} → i < length s → Left s i entries bytes → Looks s i found store
+    → (n ≡ eventCount (found .event)) × (n ≤ 1) → m ≡ payloadLength (found .event) → Left s (found .next) (entries + n) (bytes + m)
 left-next u l h n m =
     record {
       within = h .within;
@@ -117,24 +117,24 @@ pub record Filled (s : List ℕ) (i : ℕ) (list₀ list : List ℕ) (entries : 
   pub list-long : length list ≡ length list₀
   pub buffer-long : length buffer ≡ length buffer₀
 
-pub filled-next : {s : List ℕ} {i : ℕ} {list₀ list : List ℕ} {entries : ℕ} {buffer₀ buffer : List ℕ} {bytes : ℕ} {seen : Seen} {store list′ buffer′ : List ℕ} {n m : ℕ}
-    → Filled s i list₀ list entries buffer₀ buffer bytes → Looks s i seen store → PutsEvent (seenIn seen store) list entries buffer bytes list′ buffer′
-    → n ≡ eventCount (seen .event) → m ≡ payloadLength (seen .event) → Filled s (seen .next) list₀ list′ (entries + n) buffer₀ buffer′ (bytes + m)
-filled-next {s} {i} {list₀} {list} {entries} {buffer₀} {buffer} {bytes} {seen} {store} {list′} {buffer′} {n} {m} f h p en em =
-    let rest : List Found = foundFrom (seen .next) (drop (seen .next) s) in
+pub filled-next : {s : List ℕ} {i : ℕ} {list₀ list : List ℕ} {entries : ℕ} {buffer₀ buffer : List ℕ} {bytes : ℕ} {found : NextEvent} {store list′ buffer′ : List ℕ} {n m : ℕ}
+    → Filled s i list₀ list entries buffer₀ buffer bytes → Looks s i found store → PutsEvent (foundIn found store) list entries buffer bytes list′ buffer′
+    → n ≡ eventCount (found .event) → m ≡ payloadLength (found .event) → Filled s (found .next) list₀ list′ (entries + n) buffer₀ buffer′ (bytes + m)
+filled-next {s} {i} {list₀} {list} {entries} {buffer₀} {buffer} {bytes} {found} {store} {list′} {buffer′} {n} {m} f h p en em =
+    let rest : List Found = foundFrom (found .next) (drop (found .next) s) in
     record {
       lists =
           ap (λ (z : List ℕ). sets z (entries + n) (entriesIn rest)) (p .lists)
-          ∙ sets-then (entriesIn (seenIn seen store)) (entriesIn rest) list entries (entries + n) (omega (arith, entries-seen h, en))
+          ∙ sets-then (entriesIn (foundIn found store)) (entriesIn rest) list entries (entries + n) (omega (arith, entries-seen h, en))
           ∙ ap (sets list entries) (sym (entries-are h))
           ∙ f .lists;
       stores =
           ap (λ (z : List ℕ). sets z (bytes + m) (payloadsIn rest)) (p .stores)
-          ∙ sets-then (payloadsIn (seenIn seen store)) (payloadsIn rest) buffer bytes (bytes + m) (omega (arith, payloads-seen h, em))
+          ∙ sets-then (payloadsIn (foundIn found store)) (payloadsIn rest) buffer bytes (bytes + m) (omega (arith, payloads-seen h, em))
           ∙ ap (sets buffer bytes) (sym (payloads-are h))
           ∙ f .stores;
-      list-long = ap length (p .lists) ∙ length-sets list entries (entriesIn (seenIn seen store)) ∙ f .list-long;
-      buffer-long = ap length (p .stores) ∙ length-sets buffer bytes (payloadsIn (seenIn seen store)) ∙ f .buffer-long;
+      list-long = ap length (p .lists) ∙ length-sets list entries (entriesIn (foundIn found store)) ∙ f .list-long;
+      buffer-long = ap length (p .stores) ∙ length-sets buffer bytes (payloadsIn (foundIn found store)) ∙ f .buffer-long;
     }
 
 pub filled-end : {s : List ℕ} {i : ℕ} {list₀ list : List ℕ} {entries : ℕ} {buffer₀ buffer : List ℕ} {bytes : ℕ} → Filled s i list₀ list entries buffer₀ buffer bytes
@@ -148,9 +148,9 @@ filled-end {s} {i} {list = list} {entries} {buffer = buffer} {bytes} f u =
     }
 
 -- there is room for the next event
-pub room-there : {s : List ℕ} {i : ℕ} {list₀ list : List ℕ} {entries : ℕ} {buffer₀ buffer : List ℕ} {bytes : ℕ} {seen : Seen} {store : List ℕ}
-    → Left s i entries bytes → Filled s i list₀ list entries buffer₀ buffer bytes → Looks s i seen store
-    → length (entriesOf s) ≤ length list₀ → length (payloadsOf s) ≤ length buffer₀ → Room (seen .event) store list entries buffer bytes
+pub room-there : {s : List ℕ} {i : ℕ} {list₀ list : List ℕ} {entries : ℕ} {buffer₀ buffer : List ℕ} {bytes : ℕ} {found : NextEvent} {store : List ℕ}
+    → Left s i entries bytes → Filled s i list₀ list entries buffer₀ buffer bytes → Looks s i found store
+    → length (entriesOf s) ≤ length list₀ → length (payloadsOf s) ≤ length buffer₀ → Room (found .event) store list entries buffer bytes
 room-there l f h u v =
     record {
       fits = h .fits;
@@ -163,26 +163,26 @@ pub room-as : {e e′ : Event} {store list : List ℕ} {entries : ℕ} {buffer :
     → Room e′ store list entries buffer bytes
 room-as {store = store} {list} {entries} {buffer} {bytes} q h = subst (λ (x : Event). Room x store list entries buffer bytes) q h
 
-module _ (seen : Seen) (store : List ℕ) {list : List ℕ} {entries : ℕ} {buffer : List ℕ} {bytes : ℕ} where
-  puts-as : (e : Event) {list′ buffer′ : List ℕ} → seen .event ≡ e
-      → PutsEvent (map (foundAt (seen .offset)) (emitted e store)) list entries buffer bytes list′ buffer′
-      → PutsEvent (seenIn seen store) list entries buffer bytes list′ buffer′
+module _ (found : NextEvent) (store : List ℕ) {list : List ℕ} {entries : ℕ} {buffer : List ℕ} {bytes : ℕ} where
+  puts-as : (e : Event) {list′ buffer′ : List ℕ} → found .event ≡ e
+      → PutsEvent (map (foundAt (found .offset)) (emitted e store)) list entries buffer bytes list′ buffer′
+      → PutsEvent (foundIn found store) list entries buffer bytes list′ buffer′
   puts-as e {list′} {buffer′} q h =
-      subst (λ (x : Event). PutsEvent (map (foundAt (seen .offset)) (emitted x store)) list entries buffer bytes list′ buffer′) (sym q) h
+      subst (λ (x : Event). PutsEvent (map (foundAt (found .offset)) (emitted x store)) list entries buffer bytes list′ buffer′) (sym q) h
 
-  pub puts-nothing : seen .event ≡ Nothing → PutsEvent (seenIn seen store) list entries buffer bytes list buffer
+  pub puts-nothing : found .event ≡ Nothing → PutsEvent (foundIn found store) list entries buffer bytes list buffer
   unfolding flatten
   puts-nothing q = puts-as Nothing q (record { lists = refl; stores = refl })
 
-  pub puts-refusal : {n place x : ℕ} → seen .event ≡ Refused n place → x ≡ packed (n ∷ place ∷ 0 ∷ 0 ∷ 0 ∷ seen .offset ∷ [])
-      → PutsEvent (seenIn seen store) list entries buffer bytes (set list entries x) buffer
+  pub puts-refusal : {n place x : ℕ} → found .event ≡ Refused n place → x ≡ packed (n ∷ place ∷ 0 ∷ 0 ∷ 0 ∷ found .offset ∷ [])
+      → PutsEvent (foundIn found store) list entries buffer bytes (set list entries x) buffer
   unfolding flatten
   puts-refusal q e = puts-as (Refused _ _) q (record { lists = ap (set list entries) e; stores = refl })
 
-  pub puts-frame : {major minor wrapper len x : ℕ} {payload buffer′ : List ℕ} {answer : Written} → seen .event ≡ Frame major minor wrapper len
-      → x ≡ packed (5 ∷ len ∷ major ∷ minor ∷ wrapper ∷ seen .offset ∷ []) → payload ≡ framePayload len store → bytes + length payload ≤ length buffer
+  pub puts-frame : {major minor wrapper len x : ℕ} {payload buffer′ : List ℕ} {answer : Written} → found .event ≡ Frame major minor wrapper len
+      → x ≡ packed (5 ∷ len ∷ major ∷ minor ∷ wrapper ∷ found .offset ∷ []) → payload ≡ framePayload len store → bytes + length payload ≤ length buffer
       → Stores (noRoom bytes payload buffer ∷ []) bytes payload buffer answer buffer′
-      → PutsEvent (seenIn seen store) list entries buffer bytes (set list entries x) buffer′
+      → PutsEvent (foundIn found store) list entries buffer bytes (set list entries x) buffer′
   unfolding flatten
   puts-frame {len = len} {payload = payload} q e p r w =
       puts-as (Frame _ _ _ _) q

@@ -16,9 +16,9 @@ use Rattle.line.proofs.Moves.{within-limits}
 use Rattle.line.specs.declared.Event.{Event}
 use Rattle.line.specs.declared.Event.the-variants.{Nothing, Frame, Refused}
 use Rattle.capture.specs.Ahead.{Ahead, whole, start, badEscape, end, ahead}
-use Rattle.capture.specs.Capture.{found, checked, sized, behindStart, Found, foundAt, foundFrom}
-use Rattle.capture.specs.Looking.{NoStartIn, StartFrom, Fits, nothingSeen, Tells, Looks}
-use Rattle.capture.specs.declared.ahead.Seen.{Seen}
+use Rattle.capture.specs.Capture.{eventsAhead, checked, sized, behindStart, Found, foundAt, foundFrom}
+use Rattle.capture.specs.Looking.{NoStartIn, StartFrom, Fits, noEvent, NextIs, Looks}
+use Rattle.capture.specs.declared.ahead.NextEvent.{NextEvent}
 use Rattle.capture.proofs.Reaching.{Reaches, reaches}
 
 -- ---- bytes without a start byte hold no event
@@ -57,8 +57,8 @@ Each [] = Unit {0}
 Each (e ∷ es) = AsEvent e × Each es
 
 found-each : (place m : ℕ) (give : ℕ → List ℕ → List ℕ → List Emitted) (bs : List ℕ) → 1 ≤ place → place + 2 * m ≤ 1029
-    → ((n : ℕ) (vs rest : List ℕ) → n ≤ 2 * m → length vs ≡ m → Each (give (place + n) vs rest)) → (a : Ahead) → Reaches m bs a → Each (found place give a)
-unfolding found
+    → ((n : ℕ) (vs rest : List ℕ) → n ≤ 2 * m → length vs ≡ m → Each (give (place + n) vs rest)) → (a : Ahead) → Reaches m bs a → Each (eventsAhead place give a)
+unfolding eventsAhead
 found-each place m give bs l u g (whole n vs rest) h = g n vs rest (h .most) (h .count)
 found-each place m give bs l u g (start n) h = ((omega arith, omega arith, omega arith, omega (arith, h .0, h .1)), tt)
 found-each place m give bs l u g (badEscape n) h = ((omega arith, omega arith, omega arith, omega (arith, h .0, h .1)), tt)
@@ -98,9 +98,9 @@ pub none-left : (s : List ℕ) (i : ℕ) → length s ≤ i → foundFrom i (dro
 unfolding foundFrom
 none-left s i h = ap (foundFrom i) (drop-of-length-le s h)
 
-pub looks-end : {s : List ℕ} {from : ℕ} {store : List ℕ} {r : Seen} → length s ≤ from → r ≡ nothingSeen from (length s) → Looks s from r store
+pub looks-end : {s : List ℕ} {from : ℕ} {store : List ℕ} {r : NextEvent} → length s ≤ from → r ≡ noEvent from (length s) → Looks s from r store
 looks-end {s} {from} {store} u q =
-    subst (λ (x : Seen). Looks s from x store) (sym q)
+    subst (λ (x : NextEvent). Looks s from x store) (sym q)
     (record {
       events = none-left s from u ∙ sym (none-left s (length s) (omega arith));
       forward = λ below. omega arith;
@@ -109,10 +109,10 @@ looks-end {s} {from} {store} u q =
       fits = tt;
     })
 
-module _ {s : List ℕ} {from at : ℕ} {store : List ℕ} {r : Seen} (below : from < length s) (h : StartFrom s from at) where
-  pub looks-nothing : length s ≤ at → r ≡ nothingSeen from (length s) → Looks s from r store
+module _ {s : List ℕ} {from at : ℕ} {store : List ℕ} {r : NextEvent} (below : from < length s) (h : StartFrom s from at) where
+  pub looks-nothing : length s ≤ at → r ≡ noEvent from (length s) → Looks s from r store
   looks-nothing u q =
-      subst (λ (x : Seen). Looks s from x store) (sym q)
+      subst (λ (x : NextEvent). Looks s from x store) (sym q)
       (record {
         events = found-past s from at (h .forward) (h .within) (h .clear) ∙ ap (λ (n : ℕ). foundFrom n (drop n s)) (let e : at ≡ length s = omega (arith, h .within) in e);
         forward = λ u. below;
@@ -121,8 +121,8 @@ module _ {s : List ℕ} {from at : ℕ} {store : List ℕ} {r : Seen} (below : f
         fits = tt;
       })
 
-  pub looks-told : at < length s → Tells s at (at + 1) (behindStart (drop (at + 1) s)) r store → Looks s from r store
-  looks-told u t =
+  pub looks-next : at < length s → NextIs s at (at + 1) (behindStart (drop (at + 1) s)) r store → Looks s from r store
+  looks-next u t =
       record {
         events =
             found-past s from at (h .forward) (h .within) (h .clear)

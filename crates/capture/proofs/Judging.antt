@@ -11,7 +11,7 @@ use Rattle.wire.specs.Rules.{firstBroken}
 use Rattle.wire.proofs.Choice.{or-fails, true-false}
 use Rattle.wire.proofs.Writing.{sets-placed}
 use Rattle.capture.specs.Capture.{decoded}
-use Rattle.capture.specs.Decoding.{entriesOf, payloadsOf, captureRules, Decodes}
+use Rattle.capture.specs.Answer.{entriesOf, payloadsOf, captureRules, Decodes}
 use Rattle.capture.specs.Looking.{PutsEvent, CountsOf}
 use Rattle.capture.specs.declared.Counts.{Counts}
 use Rattle.capture.specs.declared.Decoded.the-variants.{Events, Refused}

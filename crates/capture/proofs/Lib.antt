@@ -4,7 +4,7 @@ pub mod Agreement
 pub mod Unescaping
 pub mod Reaching
 pub mod Starts
-pub mod Telling
+pub mod NextEvents
 pub mod Finding
 pub mod Packing
 pub mod Filling

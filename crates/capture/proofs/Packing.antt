@@ -8,7 +8,7 @@ use native.Mathlib.Numerals.{add-one}
 use lib.ListN.{length, take, getD, List·getD-eq-default}
 use lib.Seq.{take-suc, take-all}
 use lib.Dec.{eqb, leb}
-use borrow.Author.Tests.{eq-eqb, ne-eqb, le-leb, lt-leb, lt-ltb, le-ltb}
+use borrow.Author.Tests.{eq-eqb, ne-eqb, le-leb, lt-leb}
 use Rattle.wire.specs.Numbers.{num, le}
 use Rattle.wire.specs.Fields.{valuesAt}
 use Rattle.wire.specs.Parts.{part}
@@ -66,17 +66,17 @@ total-next list i h =
 
 -- ---- the part of an entry's payload
 module _ (list : List ℕ) (k : ℕ) where
-  pub part-above : 65536 < k → part 0 0 ≡ payloadPart list k
+  pub part-above : 65536 ≤ k → part 0 0 ≡ payloadPart list k
   unfolding payloadPart
-  part-above h = sym (simp (lt-ltb _ _ h))
+  part-above h = sym (simp (le-leb _ _ h))
 
   -- an entry that is not there
-  pub part-missing : k ≤ 65536 → length list ≤ k → (total : ℕ) → total ≡ payloadTotal (take (length list) list) → part total 0 ≡ payloadPart list k
+  pub part-missing : k < 65536 → length list ≤ k → (total : ℕ) → total ≡ payloadTotal (take (length list) list) → part total 0 ≡ payloadPart list k
   unfolding payloadPart eventBy
   part-missing u h total e =
       let t : take (length list) list ≡ take k list = take-all (length list) list (omega arith) ∙ sym (take-all k list h) in
-      sym (simp (le-ltb _ _ u, List·getD-eq-default list 0 h) (ap (λ (n : ℕ). part n 0) (ap payloadTotal (sym t) ∙ sym e)))
+      sym (simp (lt-leb _ _ u, List·getD-eq-default list 0 h) (ap (λ (n : ℕ). part n 0) (ap payloadTotal (sym t) ∙ sym e)))
 
-  pub part-there : k ≤ 65536 → (total len : ℕ) → total ≡ payloadTotal (take k list) → len ≡ lengthOf (getD list k 0) → part total len ≡ payloadPart list k
+  pub part-there : k < 65536 → (total len : ℕ) → total ≡ payloadTotal (take k list) → len ≡ lengthOf (getD list k 0) → part total len ≡ payloadPart list k
   unfolding payloadPart
-  part-there u total len e f = sym (simp (le-ltb _ _ u, e, f))
+  part-there u total len e f = sym (simp (lt-leb _ _ u, e, f))

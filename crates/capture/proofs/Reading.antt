@@ -8,10 +8,11 @@ use lib.ListN.{length, take, drop, getD, length-append, List·getD-append, List�
 use lib.Seq.{split-at, take-append-le, take-at, drop-at}
 use lib.Bits.{bitXor, xor-lt}
 use lib.Dec.{eqb, ltb}
-use borrow.Author.Tests.{le-ltb, ltb-false}
+use borrow.Author.Tests.{lt-leb, ltb-false}
 use Rattle.wire.specs.Choice.{pick}
-use Rattle.wire.specs.Numbers.{num}
+use Rattle.wire.specs.Numbers.{Bytes, num}
 use Rattle.wire.proofs.Choice.{pick-all}
+use Rattle.wire.proofs.Numbers.{bytes-none, bytes-cons, bytes-tail}
 use Rattle.wire.proofs.Lists.{part-in}
 use Rattle.wire.specs.Parts.{part, partOf}
 use Rattle.wire.specs.Rules.{Rule, verdict, firstBroken}
@@ -21,13 +22,13 @@ use Rattle.crc.specs.Crc.{crcOf}
 use Rattle.line.specs.Receive.{within, freshReceiver}
 use Rattle.line.specs.Line.{Emitted, refusal, frame}
 use Rattle.capture.specs.Ahead.{Ahead, whole, start, badEscape, end, before, behindEscape, ahead}
-use Rattle.capture.specs.Capture.{found, checked, sized, behindStart, Found, foundAt, foundFrom, decoded}
-use Rattle.capture.specs.Entry.{entry, told, eventOf, offsetOf, payloadLength, payloadTotal, payloadPart}
-use Rattle.capture.specs.Decoding.{payloadOf, entriesIn, entriesOf, payloadsIn, payloadsOf, captureRules}
-use Rattle.capture.specs.Agreement.{handedOut}
-use Rattle.capture.specs.Reading.{Bytes, none, Reads, ReadsBack}
+use Rattle.capture.specs.Capture.{eventsAhead, checked, sized, behindStart, Found, foundAt, foundFrom, decoded}
+use Rattle.capture.specs.Entry.{entry, withoutPayload, eventOf, offsetOf, payloadLength, payloadTotal, payloadPart}
+use Rattle.capture.specs.Answer.{foundPayload, entriesIn, entriesOf, payloadsIn, payloadsOf, captureRules}
+use Rattle.capture.specs.Agreement.{runFrom}
+use Rattle.capture.specs.Reading.{none, Reads, ReadsBack}
 use Rattle.capture.specs.declared.Decoded.the-variants.{Events, Refused}
-use Rattle.capture.proofs.Unpacking.{byte-at, entry-back}
+use Rattle.capture.proofs.Unpacking.{entry-back}
 use Rattle.capture.proofs.Agreement.{agreement}
 use Rattle.capture.proofs.Finding.{AsEvent, Each, behind-start-each}
 use Rattle.capture.proofs.Filling.{payloads-append}
@@ -42,24 +43,24 @@ BytesAhead end = Unit {0}
 
 before-bytes : (w v : ℕ) → v < 256 → (a : Ahead) → BytesAhead a → BytesAhead (before w v a)
 unfolding before BytesAhead
-before-bytes w v l (whole n vs rest) h = ((l, h .0), h .1)
+before-bytes w v l (whole n vs rest) h = (bytes-cons vs l (h .0), h .1)
 before-bytes w v l (start n) h = tt
 before-bytes w v l (badEscape n) h = tt
 before-bytes w v l end h = tt
 
 ahead-bytes : (m : ℕ) (bs : List ℕ) → Bytes bs → BytesAhead (ahead m bs)
 unfolding ahead behindEscape BytesAhead
-ahead-bytes zero bs h = (tt, h)
+ahead-bytes zero bs h = (bytes-none, h)
 ahead-bytes (suc m) [] h = tt
 ahead-bytes (suc m) (b ∷ bs) h =
     pick-all BytesAhead (eqb b 0x7E) (λ e. tt)
-    (λ e. pick-all BytesAhead (eqb b 0x5C) (λ f. escaped bs (ahead-bytes m) (h .1)) (λ f. before-bytes 1 b (h .0) (ahead m bs) (ahead-bytes m bs (h .1))))
+    (λ e. pick-all BytesAhead (eqb b 0x5C) (λ f. escaped bs (ahead-bytes m) (bytes-tail b bs h)) (λ f. before-bytes 1 b (h 0) (ahead m bs) (ahead-bytes m bs (bytes-tail b bs h))))
   where
     escaped : (bs : List ℕ) → ((bs : List ℕ) → Bytes bs → BytesAhead (ahead m bs)) → Bytes bs → BytesAhead (behindEscape (ahead m) bs)
     escaped [] g h = tt
     escaped (e ∷ bs) g h =
         pick-all BytesAhead (eqb e 0x7E) (λ q. tt)
-        (λ q. pick-all BytesAhead (eqb e 0x3E || eqb e 0x1C) (λ p. before-bytes 2 (bitXor e 0x40) (xor-lt 8 e 0x40 (h .0) (omega arith)) (ahead m bs) (g bs (h .1))) (λ p. tt))
+        (λ q. pick-all BytesAhead (eqb e 0x3E || eqb e 0x1C) (λ p. before-bytes 2 (bitXor e 0x40) (xor-lt 8 e 0x40 (h 0) (omega arith)) (ahead m bs) (g bs (bytes-tail e bs h))) (λ p. tt))
 
 -- ---- so major, minor and wrapper type are bytes
 abbrev FieldsFit : Emitted → Type 0
@@ -71,8 +72,8 @@ EachFields [] = Unit {0}
 EachFields (e ∷ es) = FieldsFit e × EachFields es
 
 found-fields : (place : ℕ) (give : ℕ → List ℕ → List ℕ → List Emitted) → ((n : ℕ) (vs rest : List ℕ) → Bytes vs → Bytes rest → EachFields (give n vs rest))
-    → (a : Ahead) → BytesAhead a → EachFields (found place give a)
-unfolding found BytesAhead
+    → (a : Ahead) → BytesAhead a → EachFields (eventsAhead place give a)
+unfolding eventsAhead BytesAhead
 found-fields place give g (whole n vs rest) h = g (place + n) vs rest (h .0) (h .1)
 found-fields place give g (start n) h = (tt, tt)
 found-fields place give g (badEscape n) h = (tt, tt)
@@ -81,7 +82,7 @@ found-fields place give g end h = tt
 checked-fields : (size place : ℕ) (vs : List ℕ) → Bytes vs → EachFields (checked size place vs)
 unfolding checked
 checked-fields size place vs h =
-    pick-all EachFields (eqb (crcOf (take (size - 2) vs)) (num 2 (size - 2) vs)) (λ e. ((byte-at vs h 0, byte-at vs h 1, byte-at vs h 2), tt)) (λ e. (tt, tt))
+    pick-all EachFields (eqb (crcOf (take (size - 2) vs)) (num 2 (size - 2) vs)) (λ e. ((h 0, h 1, h 2), tt)) (λ e. (tt, tt))
 
 sized-fields : (size place : ℕ) (rest : List ℕ) → Bytes rest → EachFields (sized size place rest)
 unfolding sized
@@ -114,17 +115,17 @@ pack-start limit at l fs h (e ∷ es) p q = (record { event = p .0; fields = q .
 all-pack : (limit at : ℕ) (bs : List ℕ) → Bytes bs → at + length bs ≤ limit → AllPack limit (foundFrom at bs)
 unfolding foundFrom AllPack
 all-pack limit at [] h l = tt
-all-pack limit at (b ∷ bs) h l = go (eqb b 0x7E) (all-pack limit (at + 1) bs (h .1) (omega arith))
+all-pack limit at (b ∷ bs) h l = go (eqb b 0x7E) (all-pack limit (at + 1) bs (bytes-tail b bs h) (omega arith))
   where
     go : (t : Bool) → AllPack limit (foundFrom (at + 1) bs) → AllPack limit (pick t (map (foundAt at) (behindStart bs)) [] ++ foundFrom (at + 1) bs)
-    go true g = pack-start limit at (omega arith) (foundFrom (at + 1) bs) g (behindStart bs) (behind-start-each bs) (start-fields bs (h .1))
+    go true g = pack-start limit at (omega arith) (foundFrom (at + 1) bs) g (behindStart bs) (behind-start-each bs) (start-fields bs (bytes-tail b bs h))
     go false g = g
 
 -- ---- an entry, read back
 record Unpacks (f : Found) : Type 0 where
-  event : eventOf (entry f) ≡ told (f .event)
+  event : eventOf (entry f) ≡ withoutPayload (f .event)
   offset : offsetOf (entry f) ≡ f .offset
-  long : payloadLength (told (f .event)) ≡ length (payloadOf f)
+  long : payloadLength (withoutPayload (f .event)) ≡ length (foundPayload f)
 
 unpacks : (offset : ℕ) (e : Emitted) → Packs 65536 (foundAt offset e) → Unpacks (foundAt offset e)
 unpacks offset (refusal n place) h =
@@ -144,7 +145,7 @@ unfolding payloadTotal AllPack flatten
 total-is [] h = refl
 total-is (f ∷ fs) h =
     let u = unpacks (f .offset) (f .event) (h .0) in
-    ap₂ (λ (a b : ℕ). a + b) (ap payloadLength (u .event) ∙ u .long) (total-is fs (h .1)) ∙ sym (length-append (payloadOf f) (payloadsIn fs))
+    ap₂ (λ (a b : ℕ). a + b) (ap payloadLength (u .event) ∙ u .long) (total-is fs (h .1)) ∙ sym (length-append (foundPayload f) (payloadsIn fs))
 
 -- the first of them
 pack-take : (k : ℕ) (fs : List Found) → AllPack 65536 fs → AllPack 65536 (take k fs)
@@ -169,7 +170,7 @@ length-entries [] = refl
 length-entries (f ∷ fs) = ap suc (length-entries fs)
 
 -- the payloads before one, its own, and those behind it
-payloads-at : (k : ℕ) (fs : List Found) → k < length fs → payloadsIn fs ≡ payloadsIn (take k fs) ++ (payloadOf (getD fs k none) ++ payloadsIn (drop (suc k) fs))
+payloads-at : (k : ℕ) (fs : List Found) → k < length fs → payloadsIn fs ≡ payloadsIn (take k fs) ++ (foundPayload (getD fs k none) ++ payloadsIn (drop (suc k) fs))
 unfolding flatten
 payloads-at k fs l = ap payloadsIn (split-at fs k none l) ∙ payloads-append (take k fs) (getD fs k none ∷ drop (suc k) fs)
 
@@ -195,19 +196,19 @@ module _ (fs : List Found) (list buffer : List ℕ) (h : AllPack 65536 fs) (few 
   before-it : List ℕ
   before-it = payloadsIn (take k fs)
 
-  lies : payloadPart entries k ≡ part (length (payloadsIn (take k fs))) (length (payloadOf f))
+  lies : payloadPart entries k ≡ part (length (payloadsIn (take k fs))) (length (foundPayload f))
   unfolding payloadPart
   lies =
-      simp (le-ltb _ _ (let l : k ≤ 65536 = omega arith in l))
+      simp (lt-leb _ _ (let l : k < 65536 = omega arith in l))
       (ap₂ part (ap payloadTotal front ∙ total-is (take k fs) (pack-take k fs h)) (ap (λ (n : ℕ). payloadLength (eventOf n)) at ∙ ap payloadLength (u .event) ∙ u .long))
 
-  whole-is : stored ≡ payloadsIn (take k fs) ++ (payloadOf f ++ (payloadsIn (drop (suc k) fs) ++ buffer))
+  whole-is : stored ≡ payloadsIn (take k fs) ++ (foundPayload f ++ (payloadsIn (drop (suc k) fs) ++ buffer))
   whole-is = ap (λ (z : List ℕ). z ++ buffer) (payloads-at k fs below) ∙ simp append-assoc
 
-  payload-is : partOf stored (payloadPart entries k) ≡ payloadOf f
+  payload-is : partOf stored (payloadPart entries k) ≡ foundPayload f
   payload-is =
       let a : List ℕ = payloadsIn (take k fs) in
-      let b : List ℕ = payloadOf f in
+      let b : List ℕ = foundPayload f in
       let r : List ℕ = payloadsIn (drop (suc k) fs) ++ buffer in
       ap (partOf stored) lies
       ∙ part-in stored (length a) (length b) (omega (arith, ap length whole-is, length-append a (b ++ r), length-append b r))
@@ -231,7 +232,7 @@ pub reads-back : ReadsBack
 reads-back capture list buffer list′ buffer′ entries bytes h d =
     let fs : List Found = decoded capture in
     let rules : List Rule = captureRules capture list buffer in
-    let o : fs ≡ handedOut 0 capture freshReceiver = agreement .offsets capture in
+    let o : fs ≡ runFrom 0 capture freshReceiver = agreement .offsets capture in
     let r = events-only (firstBroken rules) entries bytes (length (entriesOf capture)) (length (payloadsOf capture)) (sym (d .answers)) in
     let short : length capture ≤ 65536 = ltb-false _ _ (first-none 16 (ltb 65536 (length capture)) (noRoom 0 (entriesOf capture) list ∷ noRoom 0 (payloadsOf capture) buffer ∷ []) (r .0) .0) in
     let few : length fs ≤ 65536 = omega (arith, rooms-suffice capture .0, length-entries fs) in

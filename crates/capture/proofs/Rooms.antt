@@ -14,8 +14,8 @@ use Rattle.crc.specs.Crc.{crcOf}
 use Rattle.line.specs.Receive.{within}
 use Rattle.line.specs.Line.{Emitted, NoStart}
 use Rattle.capture.specs.Ahead.{Ahead, whole, start, badEscape, end, ahead}
-use Rattle.capture.specs.Capture.{found, checked, sized, behindStart, Found, foundAt, foundFrom}
-use Rattle.capture.specs.Decoding.{payloadOfEvent, entriesIn, payloadsIn, RoomsSuffice}
+use Rattle.capture.specs.Capture.{eventsAhead, checked, sized, behindStart, Found, foundAt, foundFrom}
+use Rattle.capture.specs.Answer.{payloadOfEvent, entriesIn, payloadsIn, RoomsSuffice}
 use Rattle.capture.proofs.Reaching.{reached}
 use Rattle.capture.proofs.Filling.{entries-append, payloads-append}
 
@@ -40,8 +40,8 @@ Small k (e ∷ []) = length (payloadOfEvent e) ≤ k
 Small k (e ∷ (f ∷ es)) = ⊥
 
 found-small : (place k : ℕ) (give : ℕ → List ℕ → List ℕ → List Emitted) (a : Ahead)
-    → ((n : ℕ) (vs rest : List ℕ) → a ≡ whole n vs rest → Small k (give (place + n) vs rest)) → Small k (found place give a)
-unfolding found Small
+    → ((n : ℕ) (vs rest : List ℕ) → a ≡ whole n vs rest → Small k (give (place + n) vs rest)) → Small k (eventsAhead place give a)
+unfolding eventsAhead Small
 found-small place k give (whole n vs rest) g = g n vs rest refl
 found-small place k give (start n) g = omega arith
 found-small place k give (badEscape n) g = omega arith

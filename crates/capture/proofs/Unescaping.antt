@@ -2,13 +2,12 @@
 use mathlib.Core.Path.{_≡_, refl, sym, ap, _∙_, subst}
 use mathlib.Core.List.{List, [], _∷_, _++_}
 use mathlib.Core.Bool.{Bool, true, false, _||_}
-use Prim.Native.Nat.{ℕ, zero, suc, _+_, _-_, _*_, _≤_, _<_}
+use Prim.Native.Nat.{ℕ, zero, suc, _+_, _≤_, _<_}
 use native.Mathlib.Omega.{arith}
 use lib.ListN.{length, drop, getD, drop-of-length-le}
 use lib.Seq.{drop-cons}
 use lib.Bits.{bitXor}
 use lib.Dec.{eqb}
-use native.Mathlib.Nat.{mul-pos}
 use borrow.Author.Tests.{eq-eqb, ne-eqb, eqb-true, eqb-false}
 use Rattle.wire.specs.Choice.{pick}
 use Rattle.wire.proofs.Choice.{true-false}
@@ -91,20 +90,6 @@ more-stuck n end h = refl
 
 pub ahead-stuck : (n : ℕ) (bs : List ℕ) → Stuck (ahead 1 bs) → ahead (1 + n) bs ≡ ahead 1 bs
 ahead-stuck n bs h = ahead-more 1 n bs ∙ more-stuck n (ahead 1 bs) h
-
--- ---- what stands behind 5C
--- 3E or 1C, by one product
-pub byte-product : (e : ℕ) → 0x1C ≤ e → e ≤ 0x3E → eqb ((e - 0x1C) * (0x3E - e)) 0 ≡ (eqb e 0x3E || eqb e 0x1C)
-byte-product e l u = go (eqb e 0x3E) (eqb e 0x1C) refl refl
-  where
-    go : (x y : Bool) → eqb e 0x3E ≡ x → eqb e 0x1C ≡ y → eqb ((e - 0x1C) * (0x3E - e)) 0 ≡ (x || y)
-    go true y p q = ap (λ (k : ℕ). eqb ((k - 0x1C) * (0x3E - k)) 0) (eqb-true e 0x3E p)
-    go false true p q = ap (λ (k : ℕ). eqb ((k - 0x1C) * (0x3E - k)) 0) (eqb-true e 0x1C q)
-    go false false p q =
-        let n : e ≡ 0x3E → ⊥ = eqb-false _ _ p in
-        let m : e ≡ 0x1C → ⊥ = eqb-false _ _ q in
-        let z : 0 < (e - 0x1C) * (0x3E - e) = mul-pos (omega arith) (omega arith) in
-        ne-eqb _ _ (let k : (e - 0x1C) * (0x3E - e) ≡ 0 → ⊥ = omega arith in k)
 
 -- ---- the first unescaped byte at an offset of a capture
 pub some-there : {s : List ℕ} {at v w : ℕ} → ahead 1 (drop at s) ≡ whole w (v ∷ []) (drop (at + w) s) → (w ≡ 0 → ⊥) → Unescapes s at v w

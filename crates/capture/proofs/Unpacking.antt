@@ -1,32 +1,38 @@
 -- An entry stands for the event packed in it. Assumes nothing.
 use mathlib.Core.Path.{_≡_, refl, sym, ap, _∙_}
 use mathlib.Core.List.{List, [], _∷_, append-nil}
-use Prim.Native.Nat.{ℕ, zero, suc, _<_}
+use Prim.Native.Nat.{ℕ, _<_}
 use native.Mathlib.Omega.{arith}
 use lib.ListN.{getD}
 use borrow.Author.Tests.{ne-eqb, le-leb, lt-ltb}
 use mathlib.Core.Bool.{false}
 use Rattle.wire.specs.Fields.{encode, valuesAt, unfit}
-use Rattle.wire.proofs.Numbers.{le-num}
+use Rattle.wire.specs.Numbers.{Bytes}
+use Rattle.wire.proofs.Numbers.{bytes-none, bytes-cons, le-num}
 use Rattle.wire.proofs.Fields.{values-back}
 use Rattle.line.specs.Line.{refusal, frame}
 use Rattle.capture.specs.Entry.{entryFields, packed, valuesOf, eventBy, EntryBack}
-use Rattle.capture.specs.Reading.{Bytes}
 
-pub byte-at : (bs : List ℕ) → Bytes bs → (i : ℕ) → getD bs i 0 < 256
-byte-at [] h i = omega arith
-byte-at (b ∷ bs) h zero = h .0
-byte-at (b ∷ bs) h (suc i) = byte-at bs (h .1) i
+-- bytes, one by one
+EachByte : List ℕ → Type 0
+EachByte [] = Unit {0}
+EachByte (b ∷ bs) = (b < 256) × EachByte bs
+
+bytes-of : (bs : List ℕ) → EachByte bs → Bytes bs
+unfolding EachByte
+bytes-of [] h = bytes-none
+bytes-of (b ∷ bs) h = bytes-cons bs (h .0) (bytes-of bs (h .1))
 
 -- the fields of an entry are read as they were put
 values-of : (kind count major minor wrapper offset : ℕ) → kind < 256 → count < 65536 → major < 256 → minor < 256 → wrapper < 256 → offset < 65536
     → valuesOf (packed (kind ∷ count ∷ major ∷ minor ∷ wrapper ∷ offset ∷ [])) ≡ kind ∷ count ∷ major ∷ minor ∷ wrapper ∷ offset ∷ []
+unfolding EachByte
 values-of kind count major minor wrapper offset hk hc ha hi hw ho =
     let vs : List ℕ = kind ∷ count ∷ major ∷ minor ∷ wrapper ∷ offset ∷ [] in
     let bs : List ℕ = encode entryFields vs in
     let u : unfit entryFields vs ≡ false = simp (lt-ltb _ _ hk, lt-ltb _ _ hc, lt-ltb _ _ ha, lt-ltb _ _ hi, lt-ltb _ _ hw, lt-ltb _ _ ho) in
-    let h : Bytes bs = (hk, (omega arith, (omega arith, (ha, (hi, (hw, (omega arith, (omega arith, tt)))))))) in
-    ap (valuesAt entryFields 0) (le-num bs (byte-at bs h) 8 0 (omega arith) ∙ sym (append-nil bs)) ∙ values-back entryFields vs [] [] 0 refl u
+    let h : Bytes bs = bytes-of bs (hk, (omega arith, (omega arith, (ha, (hi, (hw, (omega arith, (omega arith, tt)))))))) in
+    ap (valuesAt entryFields 0) (le-num bs h 8 0 (omega arith) ∙ sym (append-nil bs)) ∙ values-back entryFields vs [] [] 0 refl u
 
 pub entry-back : EntryBack
 unfolding eventBy

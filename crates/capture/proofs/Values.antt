@@ -22,22 +22,22 @@ use Rattle.line.specs.declared.Receiver.{Receiver}
 use Rattle.line.specs.declared.Step.{Step}
 use Rattle.line.specs.declared.Event.the-variants.{Nothing}
 use Rattle.capture.specs.Ahead.{Ahead, whole, start, badEscape, end, before, behindEscape, ahead}
-use Rattle.capture.specs.Capture.{found, checked, sized, Found, foundAt, foundFrom}
-use Rattle.capture.specs.Agreement.{handedOut}
+use Rattle.capture.specs.Capture.{eventsAhead, checked, sized, Found, foundAt, foundFrom}
+use Rattle.capture.specs.Agreement.{runFrom}
 use Rattle.capture.proofs.Frames.{frame-front}
 
 -- ---- what is found from one unescaped byte further back
 found-before : (place w v : ℕ) (give : ℕ → List ℕ → List ℕ → List Emitted) (a : Ahead)
-    → found place give (before w v a) ≡ found (place + w) (λ n vs rest. give n (v ∷ vs) rest) a
-unfolding found before
+    → eventsAhead place give (before w v a) ≡ eventsAhead (place + w) (λ n vs rest. give n (v ∷ vs) rest) a
+unfolding eventsAhead before
 found-before place w v give (whole n vs rest) = let e : place + (w + n) ≡ place + w + n = omega arith in ap (λ (k : ℕ). give k (v ∷ vs) rest) e
 found-before place w v give (start n) = let e : place + (w + n) ≡ place + w + n = omega arith in ap (λ (k : ℕ). refusal 1 k ∷ []) e
 found-before place w v give (badEscape n) = let e : place + (w + n) ≡ place + w + n = omega arith in ap (λ (k : ℕ). refusal 2 k ∷ []) e
 found-before place w v give end = refl
 
 found-same : (place : ℕ) (f g : ℕ → List ℕ → List ℕ → List Emitted) → ((n : ℕ) (vs rest : List ℕ) → f n vs rest ≡ g n vs rest)
-    → (a : Ahead) → found place f a ≡ found place g a
-unfolding found
+    → (a : Ahead) → eventsAhead place f a ≡ eventsAhead place g a
+unfolding eventsAhead
 found-same place f g h (whole n vs rest) = h (place + n) vs rest
 found-same place f g h (start n) = refl
 found-same place f g h (badEscape n) = refl
@@ -63,28 +63,28 @@ abbrev pub then : ℕ → List Emitted → ℕ → List ℕ → List Found
 then offset es at bs = map (foundAt offset) es ++ foundFrom at bs
 
 -- the receiver hands out what is found ahead: idle, inside a frame whose start byte has an offset, and inside one behind a 5C
-pub record Says (bs : List ℕ) : Type 0 where
-  pub idly : (at : ℕ) (p : Progress) (s : List ℕ) → busy p ≡ false → length s ≡ 512 → handedOut at bs (holding p s) ≡ foundFrom at bs
+pub record Agrees (bs : List ℕ) : Type 0 where
+  pub idly : (at : ℕ) (p : Progress) (s : List ℕ) → busy p ≡ false → length s ≡ 512 → runFrom at bs (holding p s) ≡ foundFrom at bs
   pub inside : (offset low got size count : ℕ) (s : List ℕ) → Inside low got size count s
-      → handedOut (offset + count) bs (holding (reading false low got size count) s)
-      ≡ then offset (found count (gathers low got size s) (ahead (suc (wanted got size)) bs)) (offset + count) bs
+      → runFrom (offset + count) bs (holding (reading false low got size count) s)
+      ≡ then offset (eventsAhead count (gathers low got size s) (ahead (suc (wanted got size)) bs)) (offset + count) bs
   pub escaped : (offset low got size count : ℕ) (s : List ℕ) → Inside low got size count s
-      → handedOut (offset + (count + 1)) bs (holding (reading true low got size (count + 1)) s)
-      ≡ then offset (found count (gathers low got size s) (behindEscape (ahead (wanted got size)) bs)) (offset + (count + 1)) bs
+      → runFrom (offset + (count + 1)) bs (holding (reading true low got size (count + 1)) s)
+      ≡ then offset (eventsAhead count (gathers low got size s) (behindEscape (ahead (wanted got size)) bs)) (offset + (count + 1)) bs
 
 -- ---- a step inside the frame whose start byte has an offset, and the bytes behind it, from another offset on
 abbrev pub stepped : ℕ → Step → ℕ → List ℕ → List Found
-stepped offset t at bs = map (foundAt offset) (emitted (t .event) (t .receiver .store)) ++ handedOut at bs (t .receiver)
+stepped offset t at bs = map (foundAt offset) (emitted (t .event) (t .receiver .store)) ++ runFrom at bs (t .receiver)
 
 pub run-step : (at offset : ℕ) (r : Receiver) (b : ℕ) (bs : List ℕ) (t : Step) → at - r .progress .count ≡ offset → stepOf r b ≡ t
-    → handedOut at (b ∷ bs) r ≡ stepped offset t (at + 1) bs
-unfolding handedOut
+    → runFrom at (b ∷ bs) r ≡ stepped offset t (at + 1) bs
+unfolding runFrom
 run-step at offset r b bs t o e =
-    ap₂ (λ (n : ℕ) (z : List Emitted). map (foundAt n) z ++ handedOut (at + 1) bs (stepOf r b .receiver)) o (sym (step-gives r b))
+    ap₂ (λ (n : ℕ) (z : List Emitted). map (foundAt n) z ++ runFrom (at + 1) bs (stepOf r b .receiver)) o (sym (step-gives r b))
     ∙ ap (λ (x : Step). stepped offset x (at + 1) bs) e
 
 -- ---- an unescaped byte v, w bytes on the line
-module _ (bs : List ℕ) (ih : Says bs) (offset low size count w v : ℕ) (s : List ℕ) (narrow : w ≤ 2) where
+module _ (bs : List ℕ) (ih : Agrees bs) (offset low size count w v : ℕ) (s : List ℕ) (narrow : w ≤ 2) where
   -- the offset of the byte behind it
   abbrev next : ℕ
   next = offset + (count + w)
@@ -93,7 +93,7 @@ module _ (bs : List ℕ) (ih : Says bs) (offset low size count w v : ℕ) (s : L
   Value got =
       Inside low got size count s
       → stepped offset (taken (reading false low got size (count + w)) s v) next bs
-      ≡ then offset (found count (gathers low got size s) (before w v (ahead (wanted got size) bs))) next bs
+      ≡ then offset (eventsAhead count (gathers low got size s) (before w v (ahead (wanted got size) bs))) next bs
 
   -- the size's low byte
   value-low : Value 0
@@ -104,24 +104,24 @@ module _ (bs : List ℕ) (ih : Says bs) (offset low size count w v : ℕ) (s : L
       ∙ ap (λ (z : List Emitted). then offset z next bs) (sym (found-before count w v (gathers low 0 size s) (ahead 1 bs)))
 
   -- its high byte
-  size-says : (n : ℕ) (t : Bool) → within n ≡ t → count + w ≤ 5 → length s ≡ 512
+  size-agrees : (n : ℕ) (t : Bool) → within n ≡ t → count + w ≤ 5 → length s ≡ 512
       → stepped offset (pick t (stepTo (reading false 0 2 n (count + w)) s Nothing) (refusedStep 3 (count + w) s)) next bs
-      ≡ then offset (pick t (found (count + w) (λ place vs rest. checked n place vs) (ahead n bs)) (refusal 3 (count + w) ∷ [])) next bs
+      ≡ then offset (pick t (eventsAhead (count + w) (λ place vs rest. checked n place vs) (ahead n bs)) (refusal 3 (count + w) ∷ [])) next bs
   unfolding gathers wanted
-  size-says n true e hc room =
+  size-agrees n true e hc room =
       let l = within-limits n e in
       let k : suc (n + 1 - 2) ≡ n = omega (arith, l .0) in
       ih .inside offset 0 2 n (count + w) s (record { least = l .0; most = l .1; more = omega (arith, l .0); bounded = omega arith; room = room })
-      ∙ ap (λ (m : ℕ). then offset (found (count + w) (λ place vs rest. checked n place vs) (ahead m bs)) next bs) k
-  size-says n false e hc room = ap (λ (z : List Found). foundAt offset (refusal 3 (count + w)) ∷ z) (ih .idly next idle s idle-busy room)
+      ∙ ap (λ (m : ℕ). then offset (eventsAhead (count + w) (λ place vs rest. checked n place vs) (ahead m bs)) next bs) k
+  size-agrees n false e hc room = ap (λ (z : List Found). foundAt offset (refusal 3 (count + w)) ∷ z) (ih .idly next idle s idle-busy room)
 
   value-high : Value 1
-  unfolding taken sizedStep gathers wanted found before ahead sized
+  unfolding taken sizedStep gathers wanted eventsAhead before ahead sized
   value-high h =
       let k : count + (w + 0) ≡ count + w = omega arith in
       let n : ℕ = low + 256 * v in
-      size-says n (within n) refl (omega (arith, h .bounded)) (h .room)
-      ∙ ap (λ (c : ℕ). then offset (pick (within n) (found c (λ place vs rest. checked n place vs) (ahead n bs)) (refusal 3 c ∷ [])) next bs) (sym k)
+      size-agrees n (within n) refl (omega (arith, h .bounded)) (h .room)
+      ∙ ap (λ (c : ℕ). then offset (pick (within n) (eventsAhead c (λ place vs rest. checked n place vs) (ahead n bs)) (refusal 3 c ∷ [])) next bs) (sym k)
 
   -- a byte behind the size
   module _ (got : ℕ) (behind-size : 2 ≤ got) where
@@ -147,7 +147,7 @@ module _ (bs : List ℕ) (ih : Says bs) (offset low size count w v : ℕ) (s : L
 
   -- one that is not the last
   value-more : (got : ℕ) → 2 ≤ got → (got ≡ size + 1 → ⊥) → Value got
-  unfolding found
+  unfolding eventsAhead
   value-more got h2 n h =
       let s′ : List ℕ = set s (got - 2) v in
       let c : ℕ = count + w in
@@ -173,12 +173,12 @@ module _ (bs : List ℕ) (ih : Says bs) (offset low size count w v : ℕ) (s : L
       })
       ∙ ap (λ (z : List Emitted). then offset z next bs)
       (found-same c (gathers low (got + 1) size s′) g same (ahead (suc (wanted (got + 1) size)) bs)
-      ∙ ap (λ (j : ℕ). found c g (ahead j bs)) m
+      ∙ ap (λ (j : ℕ). eventsAhead c g (ahead j bs)) m
       ∙ sym (found-before count w v (gathers low got size s) (ahead (wanted got size) bs)))
 
   -- the last
   value-last : (got : ℕ) → 2 ≤ got → got ≡ size + 1 → Value got
-  unfolding found before ahead
+  unfolding eventsAhead before ahead
   value-last got h2 l h =
       let c : ℕ = count + w in
       let j : ℕ = got - 2 in
@@ -195,7 +195,7 @@ module _ (bs : List ℕ) (ih : Says bs) (offset low size count w v : ℕ) (s : L
       (frame-front size c s′ (h .least) (h .most) (omega arith)
       ∙ ap₂ (checked size) (sym k) front
       ∙ sym (body-gathers got h2 s (count + (w + 0)) (v ∷ []) bs)
-      ∙ ap (λ (m : ℕ). found count (gathers low got size s) (before w v (ahead m bs))) (sym z))
+      ∙ ap (λ (m : ℕ). eventsAhead count (gathers low got size s) (before w v (ahead m bs))) (sym z))
 
   pub value : (got : ℕ) → Value got
   value got = go (eqb got 0) (eqb got 1) (eqb got (size + 1)) refl refl refl

@@ -1,5 +1,6 @@
 -- Looking ahead in the bytes of a frame: document 01, 'Line'.
 use Prim.Native.Nat.{ℕ, zero, suc, _+_}
+use mathlib.Core.Path.{_≡_, refl}
 use mathlib.Core.List.{List, [], _∷_}
 use mathlib.Core.Bool.{_||_}
 use lib.Bits.{bitXor}
@@ -40,3 +41,20 @@ ahead (suc n) (b ∷ bs) =
     pick (eqb b 0x7E)
     (start 1)
     (pick (eqb b 0x5C) (behindEscape (ahead n) bs) (before 1 b (ahead n bs)))
+
+-- ---- three bytes of a frame, two of them escaped, and a fourth behind them; a 7E before the third, and behind a 5C
+example-whole : ahead 3 (0x5C ∷ 0x3E ∷ 0x5C ∷ 0x1C ∷ 0x40 ∷ 0x41 ∷ []) ≡ whole 5 (0x7E ∷ 0x5C ∷ 0x40 ∷ []) (0x41 ∷ [])
+unfolding ahead behindEscape before
+example-whole = refl
+
+example-start : ahead 3 (0x5C ∷ 0x3E ∷ 0x41 ∷ 0x7E ∷ []) ≡ start 4
+unfolding ahead behindEscape before
+example-start = refl
+
+example-escaped-start : ahead 3 (0x41 ∷ 0x41 ∷ 0x5C ∷ 0x7E ∷ []) ≡ start 4
+unfolding ahead behindEscape before
+example-escaped-start = refl
+
+example-bad : ahead 3 (0x41 ∷ 0x5C ∷ 0x41 ∷ []) ≡ badEscape 3
+unfolding ahead behindEscape before
+example-bad = refl

@@ -2,9 +2,9 @@
 use Prim.Native.Nat.{ℕ, _+_, _≤_, _<_}
 use mathlib.Core.Path.{_≡_, refl}
 use mathlib.Core.Bool.{_&&_}
-use mathlib.Core.List.{List, [], _∷_}
+use mathlib.Core.List.{List, [], _∷_, map}
 use lib.ListN.{take, getD}
-use lib.Dec.{eqb, leb, ltb}
+use lib.Dec.{eqb, leb}
 use Rattle.wire.specs.Choice.{pick}
 use Rattle.wire.specs.Numbers.{num, le}
 use Rattle.wire.specs.Parts.{part}
@@ -47,11 +47,11 @@ eventOf n = eventBy (getD (valuesOf n) 0 0) (valuesOf n)
 abbrev pub offsetOf : ℕ → ℕ
 offsetOf n = getD (valuesOf n) 5 0
 
--- ---- the law that it gives the event packed (proofs/Unpacking.antt)
+-- ---- the law that `eventOf` gives the event packed, and `offsetOf` its offset; proofs/Unpacking.antt proves it
 -- an event without its payload
-abbrev pub told : Emitted → Event
-told (refusal n place) = Refused n place
-told (frame major minor wrapper len payload) = Frame major minor wrapper len
+abbrev pub withoutPayload : Emitted → Event
+withoutPayload (refusal n place) = Refused n place
+withoutPayload (frame major minor wrapper len payload) = Frame major minor wrapper len
 
 -- what an entry has room for
 abbrev pub Packable : Emitted → Type 0
@@ -60,7 +60,7 @@ Packable (frame major minor wrapper len payload) = (major < 256) × (minor < 256
 
 abbrev pub EntryBack : Type 0
 EntryBack = (offset : ℕ) (e : Emitted) → offset < 65536 → Packable e
-    → (eventOf (entry (foundAt offset e)) ≡ told e) × (offsetOf (entry (foundAt offset e)) ≡ offset)
+    → (eventOf (entry (foundAt offset e)) ≡ withoutPayload e) × (offsetOf (entry (foundAt offset e)) ≡ offset)
 
 -- ---- where payloads lie in the lent buffer, one behind the other
 abbrev pub payloadLength : Event → ℕ
@@ -76,18 +76,41 @@ payloadTotal [] = 0
 payloadTotal (n ∷ ns) = lengthOf n + payloadTotal ns
 
 -- the part of the entry with a number, counted from 0: behind the payloads of the entries before it. A refusal's is empty, and so is that
--- of an entry that is not there; no capture has more than 65,536 entries
+-- of an entry that is not there; no capture has an entry 65,536, and from there on it is empty at 0
 unfoldable pub payloadPart : List ℕ → ℕ → Part
 payloadPart entries k =
-    pick (ltb 65536 k) (part 0 0) (part (payloadTotal (take k entries)) (lengthOf (getD entries k 0)))
+    pick (leb 65536 k) (part 0 0) (part (payloadTotal (take k entries)) (lengthOf (getD entries k 0)))
 
--- ---- the hello frame of document 01 at offset 6, and refusal 3 at place 3 behind offset 12
-example-frame : entry (foundAt 6 (frame 1 0 0 3 (0 ∷ 0 ∷ 0 ∷ []))) ≡ 0x0006000001000305
-example-frame = refl
+-- ---- by hand: a frame of version 1.2, wrapper type 128 and 507 payload bytes, whose start byte has offset 65,525; refusal 3 at place 3 of
+-- the frame at offset 12; numbers that are no event
+example-frame : (p : List ℕ) → entry (foundAt 65525 (frame 1 2 128 507 p)) ≡ 0xFFF580020101FB05
+example-frame p = refl
 
 example-refusal : entry (foundAt 12 (refusal 3 3)) ≡ 0x000C000000000303
 example-refusal = refl
 
-example-event : eventOf 0x0006000001000305 ≡ Frame 1 0 0 3
+example-frame-back : eventOf 0xFFF580020101FB05 ≡ Frame 1 2 128 507
 unfolding eventBy
-example-event = refl
+example-frame-back = refl
+
+example-offset-back : offsetOf 0xFFF580020101FB05 ≡ 65525
+example-offset-back = refl
+
+example-refusal-back : eventOf 0x000C000000000303 ≡ Refused 3 3
+unfolding eventBy
+example-refusal-back = refl
+
+example-zero : eventOf 0 ≡ Nothing
+unfolding eventBy
+example-zero = refl
+
+example-six : eventOf 0x0006000001000306 ≡ Nothing
+unfolding eventBy
+example-six = refl
+
+-- a frame with 3 payload bytes, a refusal, a frame with 2, and an entry that is not there
+example-parts :
+    map (payloadPart (0x0000000001000305 ∷ 0x000C000000000303 ∷ 0x000F000001000205 ∷ [])) (0 ∷ 1 ∷ 2 ∷ 3 ∷ [])
+    ≡ part 0 3 ∷ part 3 0 ∷ part 3 2 ∷ part 5 0 ∷ []
+unfolding payloadPart payloadTotal eventBy
+example-parts = refl

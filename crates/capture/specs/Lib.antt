@@ -2,6 +2,6 @@ pub mod Ahead
 pub mod Capture
 pub mod Agreement
 pub mod Entry
-pub mod Decoding
+pub mod Answer
 pub mod Reading
 pub mod Looking

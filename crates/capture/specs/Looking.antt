@@ -9,11 +9,11 @@ use Rattle.line.specs.Line.{Emitted, emitted, Limits}
 use Rattle.line.specs.declared.Event.{Event}
 use Rattle.line.specs.declared.Event.the-variants.{Nothing, Frame, Refused}
 use Rattle.capture.specs.Ahead.{Ahead, whole, start, badEscape, end, ahead}
-use Rattle.capture.specs.Capture.{found, Found, foundAt, foundFrom}
+use Rattle.capture.specs.Capture.{eventsAhead, Found, foundAt, foundFrom}
 use Rattle.capture.specs.Entry.{payloadLength}
-use Rattle.capture.specs.Decoding.{entriesIn, entriesOf, payloadsIn, payloadsOf}
+use Rattle.capture.specs.Answer.{entriesIn, entriesOf, payloadsIn, payloadsOf}
 use Rattle.capture.specs.declared.Counts.{Counts}
-use Rattle.capture.specs.declared.ahead.Seen.{Seen}
+use Rattle.capture.specs.declared.ahead.NextEvent.{NextEvent}
 
 -- ---- start bytes
 -- no 7E between two offsets of a capture
@@ -65,16 +65,16 @@ pub record Continues (s : List ℕ) (got at most : ℕ) (store : List ℕ) (got�
   pub stuck : got′ ≡ got → Stuck (ahead 1 (drop at′ s))
 
 -- ---- events
-abbrev pub nothingSeen : ℕ → ℕ → Seen
-nothingSeen offset next = record { event = Nothing; offset = offset; next = next }
+abbrev pub noEvent : ℕ → ℕ → NextEvent
+noEvent offset next = record { event = Nothing; offset = offset; next = next }
 
 -- a refusal at the byte before an offset of the capture
-abbrev pub refusalSeen : ℕ → ℕ → ℕ → ℕ → Seen
-refusalSeen n offset behind next = record { event = Refused n (behind - offset); offset = offset; next = next }
+abbrev pub refusalAt : ℕ → ℕ → ℕ → ℕ → NextEvent
+refusalAt n offset behind next = record { event = Refused n (behind - offset); offset = offset; next = next }
 
 -- what is found where no unescaped byte is
 abbrev pub stopped : ℕ → Ahead → List Emitted
-stopped place a = found place (λ n vs rest. []) a
+stopped place a = eventsAhead place (λ n vs rest. []) a
 
 -- a payload of at most 507 bytes, which is in the store; a refusal 1 to 4 at a place of 1 to 1029
 abbrev pub Fits : Event → List ℕ → Type 0
@@ -83,25 +83,25 @@ Fits (Frame major minor wrapper len) store = (len ≤ 507) × (length (framePayl
 Fits (Refused n place) store = Limits n place
 
 -- the events of the frame whose start byte has an offset, from another offset of the capture on: one at most; and where to go on
-pub record Tells (s : List ℕ) (offset at : ℕ) (events : List Emitted) (seen : Seen) (store : List ℕ) : Type 0 where
-  pub event : emitted (seen .event) store ≡ events
-  pub offset-is : seen .offset ≡ offset
-  pub forward : at ≤ seen .next
-  pub within : seen .next ≤ length s
-  pub clear : NoStartIn s at (seen .next)
+pub record NextIs (s : List ℕ) (offset at : ℕ) (events : List Emitted) (found : NextEvent) (store : List ℕ) : Type 0 where
+  pub event : emitted (found .event) store ≡ events
+  pub offset-is : found .offset ≡ offset
+  pub forward : at ≤ found .next
+  pub within : found .next ≤ length s
+  pub clear : NoStartIn s at (found .next)
 
-abbrev pub seenIn : Seen → List ℕ → List Found
-seenIn seen store = map (foundAt (seen .offset)) (emitted (seen .event) store)
+abbrev pub foundIn : NextEvent → List ℕ → List Found
+foundIn found store = map (foundAt (found .offset)) (emitted (found .event) store)
 
 -- the next event from an offset of the capture on, and where to go on: further on, unless the capture ends before that offset
-pub record Looks (s : List ℕ) (from : ℕ) (seen : Seen) (store : List ℕ) : Type 0 where
+pub record Looks (s : List ℕ) (from : ℕ) (found : NextEvent) (store : List ℕ) : Type 0 where
   pub events :
       foundFrom from (drop from s)
-      ≡ seenIn seen store ++ foundFrom (seen .next) (drop (seen .next) s)
-  pub forward : from < length s → from < seen .next
-  pub within : seen .next ≤ length s
-  pub below : from < length s → seen .offset < length s
-  pub fits : Fits (seen .event) store
+      ≡ foundIn found store ++ foundFrom (found .next) (drop (found .next) s)
+  pub forward : from < length s → from < found .next
+  pub within : found .next ≤ length s
+  pub below : from < length s → found .offset < length s
+  pub fits : Fits (found .event) store
 
 -- ---- the lent list and buffer
 abbrev pub eventCount : Event → ℕ

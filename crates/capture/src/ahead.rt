@@ -8,12 +8,12 @@ ghost use lib.Seq.{sets};
 ghost use Rattle.line.specs.Line.{emitted};
 ghost use Rattle.capture.specs.Ahead.{ahead};
 ghost use Rattle.capture.specs.Capture as specs;
-ghost use Rattle.capture.specs.Looking.{NoneIn, StartFrom, Stuck, Unescapes, Takes, Continues, nothingSeen, refusalSeen, stopped, Tells, Looks};
+ghost use Rattle.capture.specs.Looking.{NoneIn, StartFrom, Stuck, Unescapes, Takes, Continues, noEvent, refusalAt, stopped, NextIs, Looks};
 use line::Event;
 use wire::Part;
 
 // An event, the offset of its start byte, and where to go on; where there is no event, that is the end of the capture.
-pub(crate) struct Seen {
+pub(crate) struct NextEvent {
     pub(crate) event: Event,
     pub(crate) offset: usize,
     pub(crate) next: usize,
@@ -34,7 +34,7 @@ fn any_of(s: &[u8], from: usize, a: u8, b: u8) -> bool
     any
 }
 
-// The first start byte from a place on, byte by byte; the end where there is none.
+// The first start byte from an offset on, byte by byte; the end where there is none.
 fn first_start(s: &[u8], from: usize) -> usize
     requires { ⌜ from ≤ length (now s) ⌝ }
     ensures { λ r. ⌜ StartFrom (now (s .entry)) from r ⌝ }
@@ -73,22 +73,14 @@ struct Unescaped {
     width: usize,
 }
 
-// Whether a byte behind 5C stands for one: 3E or 1C. One product for both, since which of the two comes cannot be foretold.
+// Whether a byte behind 5C stands for another: 3E or 1C. Both are compared, without a branch between.
 fn stands_for_byte(e: u8) -> bool
     ensures { λ r. ⌜ r ≡ (eqb e 0x3E || eqb e 0x1C) ⌝ }
 {
-    if e < 0x1C {
-        return false;
-    }
-    if 0x3E < e {
-        return false;
-    }
-    let above = (e - 0x1C) as u32;
-    let below = (0x3E - e) as u32;
-    above * below == 0
+    (e == 0x3E) | (e == 0x1C)
 }
 
-// The unescaped byte at a place.
+// The unescaped byte at an offset.
 fn unescape_at(s: &[u8], at: usize) -> Unescaped
     ensures { λ u. ⌜ Unescapes (now (s .entry)) at (u .byte) (u .width) ⌝ }
 {
@@ -116,7 +108,7 @@ fn unescape_at(s: &[u8], at: usize) -> Unescaped
     Unescaped { byte: 0, width: 0 }
 }
 
-// How many unescaped bytes stand at the front of the store, and the place behind the last.
+// How many unescaped bytes stand at the front of the store, and the offset behind the last.
 struct Taken {
     got: usize,
     at: usize,
@@ -182,7 +174,7 @@ fn take_some(s: &[u8], had: Taken, most: usize, store: &mut [u8]) -> Taken
     one_by_one(s, had, had.got + 16, store)
 }
 
-// `n` unescaped bytes from a place on, at the front of the store: fewer where no other is found.
+// `n` unescaped bytes from an offset on, at the front of the store: fewer where no other is found.
 fn unescape(s: &[u8], from: usize, n: usize, store: &mut [u8]) -> Taken
     requires { ⌜ (from ≤ length (now s)) × (n ≤ length (now store)) ⌝ }
     ensures { λ t. ⌜ Takes (now (s .entry)) 0 from n (now (store .entry)) (t .got) (t .at) (now (store .exit)) ⌝ }
@@ -199,10 +191,10 @@ fn unescape(s: &[u8], from: usize, n: usize, store: &mut [u8]) -> Taken
 }
 
 // No event up to the end of the capture.
-fn nothing(s: &[u8], offset: usize) -> Seen
-    ensures { λ r. ⌜ r ≡ nothingSeen offset (length (now (s .entry))) ⌝ }
+fn nothing(s: &[u8], offset: usize) -> NextEvent
+    ensures { λ r. ⌜ r ≡ noEvent offset (length (now (s .entry))) ⌝ }
 {
-    Seen {
+    NextEvent {
         event: Event::Nothing,
         offset,
         next: s.len(),
@@ -210,11 +202,11 @@ fn nothing(s: &[u8], offset: usize) -> Seen
 }
 
 // A refusal at the byte before `behind`.
-fn refused(number: u8, offset: usize, behind: usize, next: usize) -> Seen
+fn refused(number: u8, offset: usize, behind: usize, next: usize) -> NextEvent
     requires { ⌜ offset ≤ behind ⌝ }
-    ensures { λ r. ⌜ r ≡ refusalSeen number offset behind next ⌝ }
+    ensures { λ r. ⌜ r ≡ refusalAt number offset behind next ⌝ }
 {
-    Seen {
+    NextEvent {
         event: Event::Refused {
             number,
             place: behind - offset,
@@ -225,9 +217,9 @@ fn refused(number: u8, offset: usize, behind: usize, next: usize) -> Seen
 }
 
 // What comes of a frame where no unescaped byte is found: 1 at a start byte, 2 at a bad escape, nothing at the end of the capture.
-fn broken(s: &[u8], offset: usize, at: usize) -> Seen
+fn broken(s: &[u8], offset: usize, at: usize) -> NextEvent
     requires { ⌜ (offset < at) × (at ≤ length (now s)) × Stuck (ahead 1 (drop at (now s))) ⌝ }
-    ensures { λ r. ⌜ ((store : _) → Tells (now (s .entry)) offset at (stopped (at - offset) (ahead 1 (drop at (now (s .entry))))) r store) ⌝ }
+    ensures { λ r. ⌜ ((store : _) → NextIs (now (s .entry)) offset at (stopped (at - offset) (ahead 1 (drop at (now (s .entry))))) r store) ⌝ }
 {
     if s.len() <= at {
         return nothing(s, offset);
@@ -247,7 +239,7 @@ fn broken(s: &[u8], offset: usize, at: usize) -> Seen
 }
 
 // All bytes that the size counts are in the store: a frame, or 4 where its CRC differs.
-fn checked(store: &[u8; 512], size: usize, offset: usize, behind: usize) -> Seen
+fn checked(store: &[u8; 512], size: usize, offset: usize, behind: usize) -> NextEvent
     requires { ⌜ (5 ≤ size) × (size ≤ 512) × (offset ≤ behind) ⌝ }
     ensures { λ r. ⌜ (emitted (r .event) (now (store .entry)) ≡ specs.checked size (behind - offset) (take size (now (store .entry))))
         × (r .offset ≡ offset) × (r .next ≡ behind) ⌝ }
@@ -257,7 +249,7 @@ fn checked(store: &[u8; 512], size: usize, offset: usize, behind: usize) -> Seen
     if crc::crc(covered) != wire::read_u16(store, at) {
         return refused(4, offset, behind, behind);
     }
-    Seen {
+    NextEvent {
         event: Event::Frame {
             major: store[0],
             minor: store[1],
@@ -269,10 +261,10 @@ fn checked(store: &[u8; 512], size: usize, offset: usize, behind: usize) -> Seen
     }
 }
 
-// The size, up to the place `at`: 3 where no frame has it, else what the bytes that it counts come to.
-fn sized(s: &[u8], offset: usize, size: usize, at: usize, store: &mut [u8; 512]) -> Seen
+// The size, up to the offset `at`: 3 where no frame has it, else what the bytes that it counts come to.
+fn sized(s: &[u8], offset: usize, size: usize, at: usize, store: &mut [u8; 512]) -> NextEvent
     requires { ⌜ (offset < at) × (at ≤ length (now s)) ⌝ }
-    ensures { λ r. ⌜ Tells (now (s .entry)) offset at (specs.sized size (at - offset) (drop at (now (s .entry)))) r (now (store .exit)) ⌝ }
+    ensures { λ r. ⌜ NextIs (now (s .entry)) offset at (specs.sized size (at - offset) (drop at (now (s .entry)))) r (now (store .exit)) ⌝ }
 {
     if size < 5 {
         return refused(3, offset, at, at);
@@ -288,9 +280,9 @@ fn sized(s: &[u8], offset: usize, size: usize, at: usize, store: &mut [u8; 512])
 }
 
 // What the start byte at an offset comes to.
-fn behind_start(s: &[u8], offset: usize, store: &mut [u8; 512]) -> Seen
+fn behind_start(s: &[u8], offset: usize, store: &mut [u8; 512]) -> NextEvent
     requires { ⌜ offset < length (now s) ⌝ }
-    ensures { λ r. ⌜ Tells (now (s .entry)) offset (offset + 1) (specs.behindStart (drop (offset + 1) (now (s .entry)))) r (now (store .exit)) ⌝ }
+    ensures { λ r. ⌜ NextIs (now (s .entry)) offset (offset + 1) (specs.behindStart (drop (offset + 1) (now (s .entry)))) r (now (store .exit)) ⌝ }
 {
     let at = offset + 1;
     let low = unescape_at(s, at);
@@ -306,8 +298,8 @@ fn behind_start(s: &[u8], offset: usize, store: &mut [u8; 512]) -> Seen
     sized(s, offset, size, next + high.width, store)
 }
 
-// The next event from a place on.
-pub(crate) fn look(s: &[u8], from: usize, store: &mut [u8; 512]) -> Seen
+// The next event from an offset on.
+pub(crate) fn look(s: &[u8], from: usize, store: &mut [u8; 512]) -> NextEvent
     ensures { λ r. ⌜ Looks (now (s .entry)) from r (now (store .exit)) ⌝ }
 {
     if s.len() <= from {

@@ -106,12 +106,13 @@ fn payload_total(list: &[u64], n: usize) -> usize
     total
 }
 
-// Where the payload of an entry, counted from 0, lies in the lent buffer: behind those of the entries before it. Empty for a refusal, for an
-// entry that is not there, and above 65,536, which no capture has.
+// Where the payload of an entry, counted from 0, lies in the lent buffer: behind those of the entries before it. `list` is what the decoder
+// wrote, so many entries of the lent list as it answered. Empty for a refusal, for an entry that is not there, and from 65,536 on, which no
+// capture has.
 pub fn payload_part(list: &[u64], k: usize) -> Part
     ensures { λ p. ⌜ p ≡ specs.payloadPart (now (list .entry)) k ⌝ }
 {
-    if 65536 < k {
+    if 65536 <= k {
         return Part { start: 0, len: 0 };
     }
     if list.len() <= k {

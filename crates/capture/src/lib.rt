@@ -12,9 +12,9 @@ ghost use Prim.Native.Nat.{_≤_, _<_};
 ghost use lib.ListN.{length};
 ghost use lib.Dec.{ltb};
 ghost use Rattle.capture.specs.Capture.{decoded};
-ghost use Rattle.capture.specs.Decoding.{entriesOf, payloadsOf, Decodes};
-ghost use Rattle.capture.specs.Looking.{seenIn, eventCount, Room, PutsEvent, CountsOf};
-use ahead::Seen;
+ghost use Rattle.capture.specs.Answer.{entriesOf, payloadsOf, Decodes};
+ghost use Rattle.capture.specs.Looking.{foundIn, eventCount, Room, PutsEvent, CountsOf};
+use ahead::NextEvent;
 use line::Event;
 
 // The answer: how many entries and how many payload bytes there are, or a refusal's number.
@@ -58,29 +58,29 @@ fn count(s: &[u8]) -> Counts
     let mut bytes: usize = 0;
     let mut i: usize = 0;
     while i < s.len() {
-        let seen = ahead::look(s, i, &mut store);
-        let e = seen.event;
+        let found = ahead::look(s, i, &mut store);
+        let e = found.event;
         entries += events_in(e);
         bytes += entries::payload_length(e);
-        i = seen.next;
+        i = found.next;
     }
     Counts { entries, bytes }
 }
 
-// An event's entry and payload are put at a place of the list and of the buffer.
+// An event's entry and payload are put into the list and the buffer, from an index of each on.
 fn put(
-    seen: Seen,
+    found: NextEvent,
     store: &[u8; 512],
     list: &mut [u64],
     entries: usize,
     buffer: &mut [u8],
     bytes: usize,
 )
-    requires { ⌜ Room (seen .event) (now store) (now list) entries (now buffer) bytes × (seen .offset < 65536) ⌝ }
-    ensures { λ _. ⌜ PutsEvent (seenIn seen (now (store .entry))) (now (list .entry)) entries (now (buffer .entry)) bytes (now (list .exit)) (now (buffer .exit)) ⌝ }
+    requires { ⌜ Room (found .event) (now store) (now list) entries (now buffer) bytes × (found .offset < 65536) ⌝ }
+    ensures { λ _. ⌜ PutsEvent (foundIn found (now (store .entry))) (now (list .entry)) entries (now (buffer .entry)) bytes (now (list .exit)) (now (buffer .exit)) ⌝ }
 {
-    let offset = seen.offset as u16;
-    let e = seen.event;
+    let offset = found.offset as u16;
+    let e = found.event;
     match e {
         Event::Nothing => {}
         Event::Frame {
@@ -125,12 +125,12 @@ fn write(s: &[u8], list: &mut [u64], buffer: &mut [u8]) -> Counts
     let mut bytes: usize = 0;
     let mut i: usize = 0;
     while i < s.len() {
-        let seen = ahead::look(s, i, &mut store);
-        put(seen, &store, list, entries, buffer, bytes);
-        let e = seen.event;
+        let found = ahead::look(s, i, &mut store);
+        put(found, &store, list, entries, buffer, bytes);
+        let e = found.event;
         entries += events_in(e);
         bytes += entries::payload_length(e);
-        i = seen.next;
+        i = found.next;
     }
     Counts { entries, bytes }
 }

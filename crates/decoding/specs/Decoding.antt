@@ -2,7 +2,7 @@
 use Prim.Native.Nat.{ℕ}
 use mathlib.Core.Path.{_≡_, refl}
 use mathlib.Core.List.{List, [], _∷_, _++_}
-use lib.ListN.{length, take}
+use lib.ListN.{length, take, replicate}
 use lib.Dec.{eqb, leb}
 use Rattle.wire.specs.Choice.{pick}
 use Rattle.text.specs.Ascii.{ascii}
@@ -46,3 +46,12 @@ example-frame = refl
 example-refused : eventLine 58 (Refused 3 3) [] ≡ ascii "58 refused 3 3: size below 5 or above 512\n"
 unfolding decimalIn reason
 example-refused = refl
+
+-- a payload of 32 bytes is not cut, one of 33 is
+example-whole : payloadText (replicate 32 0xAB) ≡ ascii ": abababababababababababababababababababababababababababababababab"
+unfolding payloadText hex
+example-whole = refl
+
+example-cut : payloadText (replicate 33 0xAB) ≡ ascii ": abababababababababababababababababababababababababababababababab.."
+unfolding payloadText hex
+example-cut = refl

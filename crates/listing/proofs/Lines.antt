@@ -16,7 +16,7 @@ use Rattle.line.specs.Line.{Emitted, refusal, frame, emitted, run, after}
 use Rattle.line.specs.Feed.{Feeds}
 use Rattle.line.proofs.Run.{run-append, after-append}
 use Rattle.line.proofs.Feeding.{feeds-after, feeds-forward}
-use Rattle.listing.specs.Listing.{words, entry, frameLine, refusedLine, eventText, linesOf, between, Lists}
+use Rattle.listing.specs.Listing.{words, wordsLine, frameLine, refusedLine, eventText, linesOf, between, Lists}
 use Rattle.line.specs.declared.Receiver.{Receiver}
 use Rattle.line.specs.Feed.{Fed}
 use Rattle.line.specs.declared.Event.{Event}
@@ -39,13 +39,13 @@ words-length word a b h =
       decimal-length 20 b,
     )
 
-entry-length : (word : List ℕ) (a b : ℕ) → length word ≤ 8 → length (entry word a b) ≤ 50
-entry-length word a b h = omega (arith, words-length word a b h, length-append (words word a b) (ascii "\n"))
+words-line-length : (word : List ℕ) (a b : ℕ) → length word ≤ 8 → length (wordsLine word a b) ≤ 50
+words-line-length word a b h = omega (arith, words-length word a b h, length-append (words word a b) (ascii "\n"))
 
 event-length : (e : Event) → length (eventText e) ≤ 50
 event-length Nothing = omega arith
-event-length (Refused n place) = entry-length (ascii "refused ") n place (omega arith)
-event-length (Frame major minor w l) = entry-length (ascii "frame ") w l (omega arith)
+event-length (Refused n place) = words-line-length (ascii "refused ") n place (omega arith)
+event-length (Frame major minor w l) = words-line-length (ascii "frame ") w l (omega arith)
 
 -- ---- the lines of what is handed out
 lines-event : (e : Event) (s : List ℕ) → linesOf (emitted e s) ≡ eventText e

@@ -21,15 +21,15 @@ eventWords Nothing = []
 eventWords (Frame major minor wrapper len) = words (ascii "frame ") wrapper len
 eventWords (Refused n place) = words (ascii "refused ") n place
 
-abbrev pub entry : List ℕ → ℕ → ℕ → List ℕ
-entry word a b = words word a b ++ ascii "\n"
+abbrev pub wordsLine : List ℕ → ℕ → ℕ → List ℕ
+wordsLine word a b = words word a b ++ ascii "\n"
 
--- their lines
+-- the lines of both
 abbrev pub frameLine : ℕ → ℕ → List ℕ
-frameLine wrapper len = entry (ascii "frame ") wrapper len
+frameLine wrapper len = wordsLine (ascii "frame ") wrapper len
 
 abbrev pub refusedLine : ℕ → ℕ → List ℕ
-refusedLine n place = entry (ascii "refused ") n place
+refusedLine n place = wordsLine (ascii "refused ") n place
 
 -- an event's line, nothing where there is none
 abbrev pub eventText : Event → List ℕ
@@ -37,7 +37,7 @@ eventText Nothing = []
 eventText (Frame major minor wrapper len) = frameLine wrapper len
 eventText (Refused n place) = refusedLine n place
 
--- an event with all its numbers: frame MAJOR MINOR TYPE LENGTH, refused N PLACE
+-- an event with all its numbers, behind a space: frame MAJOR MINOR TYPE LENGTH, refused N PLACE
 abbrev pub eventNumbers : Event → List ℕ
 eventNumbers Nothing = []
 eventNumbers (Frame major minor wrapper len) = ascii " frame" ++ decimals (major ∷ minor ∷ wrapper ∷ len ∷ [])

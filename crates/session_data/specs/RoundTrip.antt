@@ -6,7 +6,8 @@ use mathlib.Core.List.{List}
 use lib.ListN.{length, take}
 use Rattle.wire.specs.declared.Written.{Written}
 use Rattle.wire.specs.declared.Written.the-variants.{Wrote}
-use Rattle.aes.specs.Inverse.{Bytes, SixteenBytes}
+use Rattle.wire.specs.Numbers.{Bytes}
+use Rattle.aes.specs.Inverse.{SixteenBytes}
 use Rattle.session.specs.Session.{withData}
 use Rattle.session.specs.declared.Connection.{Connection}
 use Rattle.session.specs.declared.Key.{Key}

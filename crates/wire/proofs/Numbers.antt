@@ -7,7 +7,7 @@ use native.Mathlib.Numerals.{add-one}
 use native.Mathlib.Omega.{arith}
 use lib.ListN.{length, getD, take, drop, length-append, List·getD-eq-default}
 use lib.Seq.{getD-at, append-snoc, drop-cons}
-use Rattle.wire.specs.Numbers.{num, le}
+use Rattle.wire.specs.Numbers.{Bytes, num, le}
 
 pub length-le : (w v : ℕ) → length (le w v) ≡ w
 length-le zero v = refl
@@ -25,8 +25,19 @@ num-le (suc (suc w)) v a r at e h =
     num-le (suc w) (v / 256) (a ++ (x ∷ [])) r (at + 1) (omega (arith, length-append a (x ∷ []))) (omega (arith, pow-suc 256 (suc w))) in
     rw (getD-at a x t 0 at e, rw append-snoc at ih) (omega arith)
 
--- bytes read as a number are that number's
-pub le-num : (s : List ℕ) → ((i : ℕ) → getD s i 0 < 256) → (w at : ℕ) → at + w ≤ length s → le w (num w at s) ≡ take w (drop at s)
+-- ---- bytes
+pub bytes-none : Bytes []
+bytes-none i = omega arith
+
+pub bytes-cons : {b : ℕ} (bs : List ℕ) → b < 256 → Bytes bs → Bytes (b ∷ bs)
+bytes-cons bs l h zero = l
+bytes-cons bs l h (suc i) = h i
+
+pub bytes-tail : (b : ℕ) (bs : List ℕ) → Bytes (b ∷ bs) → Bytes bs
+bytes-tail b bs h i = h (suc i)
+
+-- read as a number they are that number's
+pub le-num : (s : List ℕ) → Bytes s → (w at : ℕ) → at + w ≤ length s → le w (num w at s) ≡ take w (drop at s)
 le-num s h zero at k = refl
 le-num s h (suc zero) at k = sym (ap (take 1) (drop-cons s at 0 (omega arith)))
 le-num s h (suc (suc w)) at k =

@@ -20,7 +20,7 @@ slice-write-list-2 : tie.Need-slice-write-list-2
 slice-write-list-2 c = let b = c .before .before in omega (arith, room-as (b .e2 .given .1) (b .before .before .before .before .before .pre .0) .lists)
 
 returns : tie.Need-returns
-returns c = let a = c .before .before .before .before .before .args in puts-nothing (a .seen) (a .store .now) (c .enum-told .given .1)
+returns c = let a = c .before .before .before .before .before .args in puts-nothing (a .found) (a .store .now) (c .enum-told .given .1)
 
 returns-2 : tie.Need-returns-2
 returns-2 c =
@@ -28,14 +28,14 @@ returns-2 c =
     let e = f .before .before .before .before in
     let d = e .before .before .before .before .before in
     let r = room-as (e .e .given .1) (d .pre .0) in
-    puts-frame (d .args .seen) (d .args .store .now) (e .e .given .1) (f .before .before .frame .ensures) (f .frame-payload .ensures)
+    puts-frame (d .args .found) (d .args .store .now) (e .e .given .1) (f .before .before .frame .ensures) (f .frame-payload .ensures)
     (omega (arith, r .stores, r .fits .1, ap length (f .frame-payload .ensures))) (c .before .before .store .ensures)
 
 returns-3 : tie.Need-returns-3
 returns-3 c =
     let b = c .before .before in
     let a = b .before .before .before .before .before .args in
-    puts-refusal (a .seen) (a .store .now) (b .e2 .given .1) (c .refusal .ensures)
+    puts-refusal (a .found) (a .store .now) (b .e2 .given .1) (c .refusal .ensures)
 
 pub put-spec : {M : Type 1} → statement M
 put-spec =

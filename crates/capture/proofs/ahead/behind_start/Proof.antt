@@ -4,7 +4,7 @@ use native.Mathlib.Omega.{arith}
 use lib.ListN.{length}
 use borrow.Author.Needs.{needs}
 use Rattle.capture.proofs.Reaching.{reach-within}
-use Rattle.capture.proofs.Telling.{tells-no-low, tells-no-high, tells-by-size}
+use Rattle.capture.proofs.NextEvents.{next-no-low, next-no-high, next-by-size}
 use Rattle.capture.proofs.ahead.behind_start.Statement.{statement}
 use Rattle.capture.proofs.ahead.behind_start.Tie as tie
 
@@ -15,7 +15,7 @@ returns : tie.Need-returns
 returns c =
     let b = c .before .before .before in
     let d = b .before .before in
-    tells-no-low (d .args .s .now) (d .args .offset) (c .broken .result) (d .args .store .now) (d .pre) (b .unescape-at .ensures .none (c .before .if1 .taken)) (c .broken .ensures)
+    next-no-low (d .args .s .now) (d .args .offset) (c .broken .result) (d .args .store .now) (d .pre) (b .unescape-at .ensures .none (c .before .if1 .taken)) (c .broken .ensures)
 
 -- the place behind the size's low byte
 low-within : (c : tie.Else1) → c .before .before .before .before .args .offset + 1 + c .before .before .unescape-at .result .width ≤ length (c .before .before .before .before .args .s .now)
@@ -36,7 +36,7 @@ returns-2 c =
     let b = c .before .before .before in
     let e = b .before .before in
     let d = e .before .before .before .before in
-    tells-no-high (d .args .s .now) (d .args .offset) (c .broken2 .result) (d .args .store .now) (d .pre) (e .before .before .unescape-at .ensures .some (e .if1 .left))
+    next-no-high (d .args .s .now) (d .args .offset) (c .broken2 .result) (d .args .store .now) (d .pre) (e .before .before .unescape-at .ensures .some (e .if1 .left))
     (b .unescape-at2 .ensures .none (c .before .if2 .taken)) (c .broken2 .ensures)
 
 -- and behind its high byte
@@ -61,7 +61,7 @@ returns-3 c =
     let b = g .before .before in
     let e = b .before .before in
     let d = e .before .before .before .before in
-    tells-by-size (d .args .s .now) (d .args .offset) (c .sized .result) _ (d .pre) (e .before .before .unescape-at .ensures .some (e .if1 .left))
+    next-by-size (d .args .s .now) (d .args .offset) (c .sized .result) _ (d .pre) (e .before .before .unescape-at .ensures .some (e .if1 .left))
     (b .unescape-at2 .ensures .some (g .if2 .left)) (omega (arith, c .before .before .before .before .wide .ensures .0, c .before .before .before .wide2 .ensures .0)) (c .sized .ensures)
 
 pub behind-start-spec : {M : Type 1} → statement M

@@ -1,6 +1,6 @@
 -- `broken` meets its contract. Assumes nothing.
 use borrow.Author.Needs.{needs}
-use Rattle.capture.proofs.Telling.{stops-end, stops-start, stops-escape-end, stops-escape-start, stops-bad}
+use Rattle.capture.proofs.NextEvents.{stops-end, stops-start, stops-escape-end, stops-escape-start, stops-bad}
 use Rattle.capture.proofs.ahead.broken.Statement.{statement}
 use Rattle.capture.proofs.ahead.broken.Tie as tie
 

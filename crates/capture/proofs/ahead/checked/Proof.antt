@@ -4,8 +4,8 @@ use Prim.Native.Nat.{_-_}
 use borrow.Author.Needs.{needs}
 use Rattle.crc.specs.Crc.{crcOf}
 use Rattle.line.specs.Line.{emitted}
-use Rattle.capture.specs.Looking.{refusalSeen}
-use Rattle.capture.specs.declared.ahead.Seen.{Seen}
+use Rattle.capture.specs.Looking.{refusalAt}
+use Rattle.capture.specs.declared.ahead.NextEvent.{NextEvent}
 use Rattle.capture.proofs.Frames.{crc-differs, crc-same}
 use Rattle.capture.proofs.ahead.checked.Statement.{statement}
 use Rattle.capture.proofs.ahead.checked.Tie as tie
@@ -16,13 +16,13 @@ returns c =
     let d = b .before .before .before in
     let a = d .args in
     let s = a .store .now in
-    let e : Seen = refusalSeen 4 (a .offset) (a .behind) (a .behind) in
+    let e : NextEvent = refusalAt 4 (a .offset) (a .behind) (a .behind) in
     let q = c .refused .ensures in (
-      ap (λ (x : Seen). emitted (x .event) s) q
+      ap (λ (x : NextEvent). emitted (x .event) s) q
           ∙ crc-differs (a .size) (a .behind - a .offset) s (d .pre .0) (d .pre .1) (search needs) (b .crc .result) (c .before .before .read-u16 .result)
           (b .crc .ensures ∙ ap crcOf (b .before .part-of .ensures)) (c .before .before .read-u16 .ensures .0) (c .before .if1 .taken),
-      ap (λ (x : Seen). x .offset) q,
-      ap (λ (x : Seen). x .next) q,
+      ap (λ (x : NextEvent). x .offset) q,
+      ap (λ (x : NextEvent). x .next) q,
     )
 
 returns-2 : tie.Need-returns-2

@@ -1,6 +1,6 @@
 -- `look` meets its contract. Assumes nothing.
 use borrow.Author.Needs.{needs}
-use Rattle.capture.proofs.Finding.{looks-end, looks-nothing, looks-told}
+use Rattle.capture.proofs.Finding.{looks-end, looks-nothing, looks-next}
 use Rattle.capture.proofs.ahead.look.Statement.{statement}
 use Rattle.capture.proofs.ahead.look.Tie as tie
 
@@ -15,7 +15,7 @@ returns-2 c =
 returns-3 : tie.Need-returns-3
 returns-3 c =
     let b = c .before .before .before in
-    looks-told (b .before .if1 .left) (b .next-start .ensures) (c .before .before .if2 .left) (c .behind-start .ensures)
+    looks-next (b .before .if1 .left) (b .next-start .ensures) (c .before .before .if2 .left) (c .behind-start .ensures)
 
 pub look-spec : {M : Type 1} → statement M
 look-spec =

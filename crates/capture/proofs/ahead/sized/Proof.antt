@@ -5,7 +5,7 @@ use borrow.Author.Needs.{needs}
 use borrow.Author.Tests.{lt-leb}
 use Rattle.wire.proofs.Choice.{and-false}
 use Rattle.capture.proofs.Reaching.{takes-holds}
-use Rattle.capture.proofs.Telling.{tells-size, tells-cut, tells-checked}
+use Rattle.capture.proofs.NextEvents.{next-size, next-cut, next-checked}
 use Rattle.capture.proofs.ahead.sized.Statement.{statement}
 use Rattle.capture.proofs.ahead.sized.Tie as tie
 
@@ -13,13 +13,13 @@ returns : tie.Need-returns
 returns c =
     let d = c .before .before .before in
     let a = d .args in
-    tells-size (a .s .now) (a .offset) (a .at) (a .size) (c .refused .result) (a .store .now) (d .pre .0) (d .pre .1) (simp (lt-leb _ _ (c .before .if1 .taken))) (c .refused .ensures)
+    next-size (a .s .now) (a .offset) (a .at) (a .size) (c .refused .result) (a .store .now) (d .pre .0) (d .pre .1) (simp (lt-leb _ _ (c .before .if1 .taken))) (c .refused .ensures)
 
 returns-2 : tie.Need-returns-2
 returns-2 c =
     let d = c .before .before .before .before in
     let a = d .args in
-    tells-size (a .s .now) (a .offset) (a .at) (a .size) (c .refused2 .result) (a .store .now) (d .pre .0) (d .pre .1)
+    next-size (a .s .now) (a .offset) (a .at) (a .size) (c .refused2 .result) (a .store .now) (d .pre .0) (d .pre .1)
     (simp (lt-leb _ _ (c .before .if2 .taken)) (and-false (leb 5 (a .size)))) (c .refused2 .ensures)
 
 broken-requires : tie.Need-broken-requires
@@ -34,7 +34,7 @@ returns-3 c =
     let b = c .before .before .before in
     let d = b .before .before .before .before .before in
     let a = d .args in
-    tells-cut (a .s .now) (a .offset) (a .at) (a .size) (c .broken .result) _ (d .pre .0) (d .pre .1) (omega arith) (omega arith) (b .unescape .ensures)
+    next-cut (a .s .now) (a .offset) (a .at) (a .size) (c .broken .result) _ (d .pre .0) (d .pre .1) (omega arith) (omega arith) (b .unescape .ensures)
     (c .before .if3 .taken) (c .broken .ensures)
 
 checked-requires : tie.Need-checked-requires
@@ -48,7 +48,7 @@ returns-4 c =
     let b = c .before .before .before .before in
     let d = b .before .before .before .before .before in
     let a = d .args in
-    tells-checked (a .s .now) (a .offset) (a .at) (a .size) (c .checked .result) _ (d .pre .0) (d .pre .1) (omega arith) (omega arith) (b .unescape .ensures)
+    next-checked (a .s .now) (a .offset) (a .at) (a .size) (c .checked .result) _ (d .pre .0) (d .pre .1) (omega arith) (omega arith) (b .unescape .ensures)
     (c .before .before .if3 .left) (c .checked .ensures)
 
 pub sized-spec : {M : Type 1} → statement M

@@ -1,8 +1,8 @@
--- `numbers_of` meets its contract. Assumes nothing.
+-- `answer_numbers` meets its contract. Assumes nothing.
 use mathlib.Core.Path.{refl}
 use borrow.Author.Needs.{needs}
-use Rattle.capture_export.proofs.numbers_of.Statement.{statement}
-use Rattle.capture_export.proofs.numbers_of.Tie as tie
+use Rattle.capture_export.proofs.answer_numbers.Statement.{statement}
+use Rattle.capture_export.proofs.answer_numbers.Tie as tie
 
 returns : tie.Need-returns
 returns c = rw (c .before .d .given .1) refl
@@ -10,8 +10,8 @@ returns c = rw (c .before .d .given .1) refl
 returns-2 : tie.Need-returns-2
 returns-2 c = rw (c .before .d2 .given .1) refl
 
-pub numbers-of-spec : {M : Type 1} → statement M
-numbers-of-spec =
+pub answer-numbers-spec : {M : Type 1} → statement M
+answer-numbers-spec =
     tie.close
     (tie.spec
     (λ c. search needs)
