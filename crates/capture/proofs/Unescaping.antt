@@ -2,7 +2,8 @@
 use mathlib.Core.Path.{_≡_, refl, sym, ap, _∙_, subst}
 use mathlib.Core.List.{List, [], _∷_, _++_}
 use mathlib.Core.Bool.{Bool, true, false, _||_}
-use Prim.Native.Nat.{ℕ, zero, suc, _+_, _≤_, _<_}
+use Prim.Native.Nat.{ℕ, zero, suc, _+_, _*_, _≤_, _<_}
+use native.Mathlib.Nat.{mul-pos}
 use native.Mathlib.Omega.{arith}
 use lib.ListN.{length, drop, getD, drop-of-length-le}
 use lib.Seq.{drop-cons}
@@ -11,6 +12,7 @@ use lib.Dec.{eqb}
 use borrow.Author.Tests.{eq-eqb, ne-eqb, eqb-true, eqb-false}
 use Rattle.wire.specs.Choice.{pick}
 use Rattle.wire.proofs.Choice.{true-false}
+use Rattle.wire.proofs.Xor.{xor-twice}
 use Rattle.capture.specs.Ahead.{Ahead, whole, start, badEscape, end, before, behindEscape, ahead}
 use Rattle.capture.specs.Looking.{Stuck, Unescapes}
 
@@ -90,6 +92,22 @@ more-stuck n end h = refl
 
 pub ahead-stuck : (n : ℕ) (bs : List ℕ) → Stuck (ahead 1 bs) → ahead (1 + n) bs ≡ ahead 1 bs
 ahead-stuck n bs h = ahead-more 1 n bs ∙ more-stuck n (ahead 1 bs) h
+
+-- ---- the byte behind a 5C, by one product
+xor-pos : (a b : ℕ) → (a ≡ b → ⊥) → 0 < bitXor a b
+xor-pos a b n =
+    let h : bitXor a b ≡ 0 → ⊥ = λ z. n (sym (xor-twice a b) ∙ ap (λ (x : ℕ). bitXor x b) z) in
+    omega arith
+
+pub one-of-two : (e : ℕ) → eqb (bitXor e 0x3E * bitXor e 0x1C) 0 ≡ (eqb e 0x3E || eqb e 0x1C)
+one-of-two e = go (eqb e 0x3E) (eqb e 0x1C) refl refl
+  where
+    go : (x y : Bool) → eqb e 0x3E ≡ x → eqb e 0x1C ≡ y → eqb (bitXor e 0x3E * bitXor e 0x1C) 0 ≡ (x || y)
+    go true y p q = ap (λ (k : ℕ). eqb (bitXor k 0x3E * bitXor k 0x1C) 0) (eqb-true e 0x3E p)
+    go false true p q = ap (λ (k : ℕ). eqb (bitXor k 0x3E * bitXor k 0x1C) 0) (eqb-true e 0x1C q)
+    go false false p q =
+        let z : 0 < bitXor e 0x3E * bitXor e 0x1C = mul-pos (xor-pos e 0x3E (eqb-false _ _ p)) (xor-pos e 0x1C (eqb-false _ _ q)) in
+        ne-eqb _ _ (let k : bitXor e 0x3E * bitXor e 0x1C ≡ 0 → ⊥ = omega arith in k)
 
 -- ---- the first unescaped byte at an offset of a capture
 pub some-there : {s : List ℕ} {at v w : ℕ} → ahead 1 (drop at s) ≡ whole w (v ∷ []) (drop (at + w) s) → (w ≡ 0 → ⊥) → Unescapes s at v w

@@ -73,11 +73,11 @@ struct Unescaped {
     width: usize,
 }
 
-// Whether a byte behind 5C stands for another: 3E or 1C. Both are compared, without a branch between.
+// Whether a byte behind 5C stands for another: 3E or 1C. One product for both, since which of the two comes cannot be foretold.
 fn stands_for_byte(e: u8) -> bool
     ensures { λ r. ⌜ r ≡ (eqb e 0x3E || eqb e 0x1C) ⌝ }
 {
-    (e == 0x3E) | (e == 0x1C)
+    wire::wide(e ^ 0x3E) * wire::wide(e ^ 0x1C) == 0
 }
 
 // The unescaped byte at an offset.
