@@ -5,10 +5,9 @@ use Prim.Native.Nat.{ℕ, _+_, _*_, _≤_, _<_}
 use native.Mathlib.Omega.{arith}
 use lib.ListN.{length, drop, set, length-append}
 use lib.Seq.{sets, length-sets}
-use borrow.Author.Tests.{le-ltb}
 use Rattle.wire.specs.Writing.{Stores, noRoom}
 use Rattle.wire.proofs.Lists.{sets-then}
-use Rattle.wire.proofs.Writing.{sets-placed}
+use Rattle.wire.proofs.Writing.{stores-sets}
 use Rattle.wire.specs.declared.Written.{Written}
 use Rattle.line.specs.Receive.{framePayload}
 use Rattle.line.specs.Line.{emitted}
@@ -188,8 +187,5 @@ module _ (found : NextEvent) (store : List ℕ) {list : List ℕ} {entries : ℕ
       puts-as (Frame _ _ _ _) q
       (record {
         lists = ap (set list entries) e;
-        stores =
-            rw (le-ltb _ _ r) at (w .leaves)
-            ∙ sym (sets-placed bytes payload buffer r)
-            ∙ ap (sets buffer bytes) (p ∙ sym (append-nil (framePayload len store)));
+        stores = stores-sets bytes payload buffer r w ∙ ap (sets buffer bytes) (p ∙ sym (append-nil (framePayload len store)));
       })

@@ -149,11 +149,14 @@ fn copy_sixteen(s: &[u8], from: usize, store: &mut [u8], to: usize)
     requires { ⌜ (from + 16 ≤ length (now s)) × (to + 16 ≤ length (now store)) ⌝ }
     ensures { λ _. ⌜ now (store .exit) ≡ sets (now (store .entry)) to (take 16 (drop from (now (s .entry)))) ⌝ }
 {
-    let mut k: usize = 0;
-    while k < 16 {
-        store[to + k] = s[from + k];
-        k += 1;
-    }
+    let bytes = wire::part_of(
+        s,
+        Part {
+            start: from,
+            len: 16,
+        },
+    );
+    wire::store(bytes, to, store);
 }
 
 // Some more: 16 at once where they stand for themselves, else up to 16 byte by byte.

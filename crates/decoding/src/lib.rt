@@ -123,7 +123,8 @@ fn at_end() -> bool {
     libc::read(STDIN_FILENO, &mut one) == 0
 }
 
-// A capture is decoded and its events printed, then `end`.
+// A capture is decoded and its events printed, then `end`. 17 is the only refusal that can come: the list and the buffer are as long as any
+// capture that is decoded.
 fn print_capture(capture: &[u8]) {
     let mut list = entries_room();
     let mut payloads = io::large_buffer();

@@ -14,19 +14,16 @@ use Rattle.wire.specs.Writing.{Stores, noRoom}
 use Rattle.wire.specs.declared.Written.{Written}
 use Rattle.wire.specs.declared.Written.the-variants.{Wrote, Refused}
 use Rattle.wire.proofs.Lists.{sets-then}
-use Rattle.wire.proofs.Writing.{sets-placed, stores-refused, stores-past, stores-short, stores-made}
+use Rattle.wire.proofs.Writing.{stores-sets, stores-refused, stores-past, stores-short, stores-made}
 use Rattle.multipart.specs.Cutting.{partsFrom, cutAfter, piecesBefore, pieces, cutImage, cutterRules}
 use Rattle.multipart.proofs.Cutting.{remaining, first-of, pieces-length, image-length}
-use Rattle.multipart.proofs.OnePart.{stored}
 
 -- one part: its counter is stored, and its bytes behind
 pub part-stored : (counter : ℕ) (bytes o : List ℕ) (at : ℕ) {answer : Written} {o′ : List ℕ} → at + suc (length bytes) ≤ length o
     → Stores (noRoom (at + 1) bytes (set o at counter) ∷ []) (at + 1) bytes (set o at counter) answer o′ → o′ ≡ sets o at (counter ∷ bytes)
-part-stored counter bytes o at {answer} {o′} h w =
+part-stored counter bytes o at h w =
     let l : at + 1 + length bytes ≤ length (set o at counter) = omega (arith, length-set o at counter) in
-    stored (at + 1) bytes (set o at counter) o′ answer l w
-    ∙ sym (sets-placed (at + 1) bytes (set o at counter) l)
-    ∙ ap (λ (i : ℕ). sets (set o at counter) i bytes) (add-one at)
+    stores-sets (at + 1) bytes (set o at counter) l w ∙ ap (λ (i : ℕ). sets (set o at counter) i bytes) (add-one at)
 
 -- ---- the loop that puts them
 -- one full part less

@@ -1,5 +1,5 @@
 -- How a writer ends: a law for each way. Assumes nothing.
-use mathlib.Core.Path.{_≡_, _∙_, subst}
+use mathlib.Core.Path.{_≡_, sym, _∙_, subst}
 use mathlib.Core.Bool.{Bool, false}
 use mathlib.Core.List.{List, [], _∷_, _++_, append-assoc}
 use Prim.Native.Nat.{ℕ, suc, _+_, _≤_, _<_}
@@ -31,6 +31,11 @@ module _ (at : ℕ) (bytes room : List ℕ) where
       → Stores (noRoom at bytes room ∷ []) at bytes room (Wrote n) after
   stores-made h s l =
       record { number = rw (le-ltb _ _ h, l); answers = rw (le-ltb _ _ h, l); leaves = rw (le-ltb _ _ h, s) (sets-placed at bytes room h) }
+
+  -- and so, where there is room, the room after it is what that run makes of it
+  pub stores-sets : {answer : Written} {after : List ℕ} → at + length bytes ≤ length room → Stores (noRoom at bytes room ∷ []) at bytes room answer after
+      → after ≡ sets room at bytes
+  stores-sets h w = rw (le-ltb _ _ h) at (w .leaves) ∙ sym (sets-placed at bytes room h)
 
   -- a rule before the others that holds
   pub stores-past : {rules : List Rule} {answer : Written} {after : List ℕ} (n : ℕ) (b : Bool) → b ≡ false → Stores rules at bytes room answer after
