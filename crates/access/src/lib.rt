@@ -1,16 +1,18 @@
 // Modes, user levels, and how a packet came.
+#![tactic(auto)]
+
 ghost use Rattle.std.specs.Prelude.{◌≡◌, ◌∷◌, []};
 ghost use Rattle.wire.specs.Choice.{pick};
 ghost use Rattle.access.specs.Level.{level_number, level_of, is_level, number_read};
 
-#[derive(Drop)]
+#[derive(Clone, Copy)]
 pub enum Mode {
     Normal,
     Setup,
 }
 
 // Whose key a packet is encrypted with.
-#[derive(Drop)]
+#[derive(Clone, Copy)]
 pub enum Level {
     Admin,
     Member,
@@ -19,7 +21,7 @@ pub enum Level {
 }
 
 // A packet comes plain, encrypted with a level's key, or under a number that no level has, which no command has a mark for.
-#[derive(Drop)]
+#[derive(Clone, Copy)]
 pub enum Access {
     Plain,
     Keyed(Level),
@@ -27,7 +29,7 @@ pub enum Access {
 }
 
 // A byte read as a level.
-#[derive(Drop)]
+#[derive(Clone, Copy)]
 pub enum LevelRead {
     Known(Level),
     Unknown,

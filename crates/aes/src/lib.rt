@@ -2,6 +2,8 @@
 //
 // There is no table: the substitution of a byte is worked out, and so is the substitution back (inv_cipher). SubBytes, MixColumns and
 // their inverses take eight bytes of a state at a time (packed).
+#![tactic(auto)]
+
 mod ctr;
 mod inv_cipher;
 mod packed;

@@ -1,4 +1,6 @@
 // The crate `aes` for programs in other languages.
+#![tactic(auto)]
+
 ghost use Rattle.std.specs.Prelude.{◌≡◌};
 ghost use Rattle.aes.specs.Cipher.{key_expansion, cipher_under};
 ghost use Rattle.aes.specs.Ctr.{ctr_of};

@@ -1,5 +1,7 @@
 // AES-128 by a table of words: the cipher of the faster build. Its functions keep the promises that those of `aes`, the cipher of the small build, keep under
 // the same names. The state is four words, a column each (words); a round looks up one entry of the table for each byte (table).
+#![tactic(auto)]
+
 mod table;
 mod words;
 

@@ -1,4 +1,6 @@
 // The bridge: the opener on both routes, and the part of either slice that holds an accepted payload.
+#![tactic(auto)]
+
 mod blocks;
 pub mod characteristic;
 mod replies;
@@ -17,7 +19,7 @@ use units::Seconds;
 use wire::Part;
 
 // What the opener of frames is given beside a frame and the work buffer.
-#[derive(Drop)]
+#[derive(Clone, Copy)]
 pub struct Context {
     pub session: Session,
     pub time: Seconds,
@@ -28,7 +30,7 @@ pub struct Context {
 }
 
 // What the opener of characteristic packets is given beside a packet and the work buffer.
-#[derive(Drop)]
+#[derive(Clone, Copy)]
 pub struct Link {
     pub connection: Connection,
     pub keys: Keys,
@@ -36,49 +38,49 @@ pub struct Link {
 }
 
 // The table's reply: none, an error type of the UART, or a result code.
-#[derive(Drop)]
+#[derive(Clone, Copy)]
 pub enum Reply {
     Nothing,
     Error(u16),
     Code(u16),
 }
 
-#[derive(Drop)]
+#[derive(Clone, Copy)]
 pub struct Refusal {
     pub number: u8,
     pub reply: Reply,
 }
 
 // A part of the work buffer, or of the frame's payload.
-#[derive(Drop)]
+#[derive(Clone, Copy)]
 pub struct Place {
     pub in_work: bool,
     pub part: Part,
 }
 
 // The place is where the message's data lie, or a command's payload: what the parts in the message count from.
-#[derive(Drop)]
+#[derive(Clone, Copy)]
 pub enum Answer {
     Accepted(Message, Place),
     Refused(Refusal),
 }
 
 // The session after the frame goes into the next opening, also where the answer is a refusal.
-#[derive(Drop)]
+#[derive(Clone, Copy)]
 pub struct Opened {
     pub answer: Answer,
     pub session: Session,
 }
 
 // The place is where the command's payload lies.
-#[derive(Drop)]
+#[derive(Clone, Copy)]
 pub enum CommandAnswer {
     Accepted(Command, Place),
     Refused(Refusal),
 }
 
 // The connection session after the packet goes into the next opening, also where the answer is a refusal.
-#[derive(Drop)]
+#[derive(Clone, Copy)]
 pub struct OpenedCommand {
     pub answer: CommandAnswer,
     pub connection: Connection,

@@ -1,4 +1,6 @@
 // The opener of sealed messages for programs in other languages.
+#![tactic(auto)]
+
 ghost use Rattle.std.specs.Prelude.{◌≡◌, length};
 ghost use Rattle.wire.specs.Parts.{part, part_of};
 ghost use Rattle.bridge.specs.Opener.{opened, work_after};

@@ -1,5 +1,7 @@
 // The small build: opener and sealer of both routes over the cipher that has no table (`aes`). What they do beside the cipher is shared (`opening_uart`,
 // `opening_characteristic`, `envelope`); `bridge_table` has the same functions, with the same promises, over the faster cipher.
+#![tactic(auto)]
+
 pub mod characteristic;
 pub mod uart;
 

@@ -1,5 +1,7 @@
 // The faster build: opener and sealer of both routes over the cipher by a table of words (`aes_table`). What they do beside the cipher is shared
 // (`opening_uart`, `opening_characteristic`, `envelope`); `bridge_small` has the same functions, with the same promises, over the cipher that has no table.
+#![tactic(auto)]
+
 pub mod characteristic;
 pub mod uart;
 

@@ -1,4 +1,6 @@
 // The opener of sealed messages in the faster build, for programs in other languages.
+#![tactic(auto)]
+
 ghost use Rattle.wire.specs.Parts.{part, part_of};
 ghost use Rattle.numbering.specs.Numbering.{context_of, Exported};
 

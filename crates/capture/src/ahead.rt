@@ -10,7 +10,7 @@ use line::Event;
 use wire::Part;
 
 // An event, the offset of its start byte, and where to go on; where there is no event, that is the end of the capture.
-#[derive(Drop)]
+#[derive(Clone, Copy)]
 pub(crate) struct NextEvent {
     pub(crate) event: Event,
     pub(crate) offset: usize,
@@ -66,7 +66,7 @@ fn next_start(s: &[u8], from: usize) -> usize
 }
 
 // An unescaped byte, and how many bytes it is on the line: 0 where no unescaped byte is found.
-#[derive(Drop)]
+#[derive(Clone, Copy)]
 struct Unescaped {
     byte: u8,
     width: usize,
@@ -108,7 +108,7 @@ fn unescape_at(s: &[u8], at: usize) -> Unescaped
 }
 
 // How many unescaped bytes stand at the front of the store, and the offset behind the last.
-#[derive(Drop)]
+#[derive(Clone, Copy)]
 struct Taken {
     got: usize,
     at: usize,

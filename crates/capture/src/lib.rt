@@ -1,4 +1,6 @@
 // The decoder of a capture of the serial line: it finds each frame by looking ahead in the capture, without the receiver's record.
+#![tactic(auto)]
+
 mod ahead;
 mod entries;
 
@@ -12,14 +14,14 @@ pub use entries::{event_of, length_of, offset_of, payload_part};
 use line::Event;
 
 // The answer: how many entries and how many payload bytes there are, or a refusal's number.
-#[derive(Drop)]
+#[derive(Clone, Copy)]
 pub enum Decoded {
     Events { entries: usize, bytes: usize },
     Refused(u8),
 }
 
 // So many entries and payload bytes.
-#[derive(Drop)]
+#[derive(Clone, Copy)]
 struct Counts {
     entries: usize,
     bytes: usize,

@@ -5,6 +5,8 @@
 //   LABEL|LIST|BUFFER|BYTES   a capture, with a list of so many entries and a buffer of so many bytes, all their bytes EE
 // Bytes are listed as 0709+00*96. The first eight events are printed as OFFSET frame MAJOR MINOR TYPE LENGTH PAYLOAD or OFFSET refused N PLACE;
 // a list of more than eight entries, or a buffer of more than 64 bytes, by its CRC, low byte first.
+#![tactic(auto)]
+
 ghost use Rattle.std.specs.Prelude.{◌≡◌, ◌+◌, ◌≤◌, ◌<◌, length};
 
 use capture::Decoded;
@@ -54,7 +56,7 @@ fn events(out: &mut [u8], at: usize, list: &[u64], buffer: &[u8]) -> usize {
 }
 
 // How many entries and payload bytes the receiver's events have come to, and whether each entry said the same.
-#[derive(Drop)]
+#[derive(Clone, Copy)]
 struct Compared {
     entries: usize,
     bytes: usize,

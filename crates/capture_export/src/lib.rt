@@ -1,4 +1,6 @@
 // The capture decoder, and the line lister over bytes in memory, for programs in other languages.
+#![tactic(auto)]
+
 ghost use Rattle.capture_export.specs.Exported.{answer_numbers, DecodesInto, ListsFront};
 ghost use Rattle.std.specs.Prelude.{◌≡◌};
 

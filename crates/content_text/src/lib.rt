@@ -1,5 +1,7 @@
 // What a command and a message hold, as a text in the documents' numbers: each number behind a space, of a signed one its byte, and its value behind the
 // word offset; each part as START+LENGTH behind a space.
+#![tactic(auto)]
+
 mod fields;
 
 ghost use Rattle.std.specs.Prelude.{◌≤◌, length, take};
@@ -12,17 +14,17 @@ use message::Message;
 use wire::Part;
 
 // Eight numbers, of which the first so many count.
-#[derive(Drop)]
+#[derive(Clone, Copy)]
 struct Numbers(usize, [u64; 8]);
 
-#[derive(Drop)]
+#[derive(Clone, Copy)]
 enum Offset {
     Absent,
     Rssi(i8),
 }
 
 // Two parts, of which the first so many count.
-#[derive(Drop)]
+#[derive(Clone, Copy)]
 struct Parts(usize, Part, Part);
 
 // A part.

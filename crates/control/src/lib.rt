@@ -1,4 +1,6 @@
 // Control packets: the commands, and their reader.
+#![tactic(auto)]
+
 mod marks;
 mod payloads;
 
@@ -13,7 +15,7 @@ use units::Minutes;
 use wire::Part;
 
 // A part in a command counts from the start of the command's payload.
-#[derive(Drop)]
+#[derive(Clone, Copy)]
 pub enum Command {
     Setup(SetupFields),
     FactoryReset,
@@ -35,7 +37,7 @@ pub enum Command {
 }
 
 // Keys: six of 16 bytes, one behind the other.
-#[derive(Drop)]
+#[derive(Clone, Copy)]
 pub struct SetupFields {
     pub stone: u8,
     pub sphere: u8,
@@ -44,14 +46,14 @@ pub struct SetupFields {
 }
 
 // Kind: the state's type.
-#[derive(Drop)]
+#[derive(Clone, Copy)]
 pub struct GetStateFields {
     pub kind: u16,
     pub id: u16,
     pub mode: u8,
 }
 
-#[derive(Drop)]
+#[derive(Clone, Copy)]
 pub struct SetStateFields {
     pub kind: u16,
     pub id: u16,
@@ -59,7 +61,7 @@ pub struct SetStateFields {
     pub value: Part,
 }
 
-#[derive(Drop)]
+#[derive(Clone, Copy)]
 pub struct IbeaconFields {
     pub id: u8,
     pub timestamp: u32,
@@ -67,14 +69,14 @@ pub struct IbeaconFields {
 }
 
 // Pairs: a stone and a switch value each.
-#[derive(Drop)]
+#[derive(Clone, Copy)]
 pub struct MultiSwitchFields {
     pub count: u8,
     pub pairs: Part,
 }
 
 // Offset: from the standard signal strength (RSSI); token: a number of three bytes; ttl: the time to live.
-#[derive(Drop)]
+#[derive(Clone, Copy)]
 pub struct TrackedDeviceFields {
     pub device: u16,
     pub location: u8,
@@ -86,7 +88,7 @@ pub struct TrackedDeviceFields {
 }
 
 // Where a registered device is, and for how long that holds.
-#[derive(Drop)]
+#[derive(Clone, Copy)]
 pub struct DeviceHeartbeatFields {
     pub device: u16,
     pub location: u8,
@@ -94,7 +96,7 @@ pub struct DeviceHeartbeatFields {
     pub ttl: Minutes,
 }
 
-#[derive(Drop)]
+#[derive(Clone, Copy)]
 pub enum ControlRead {
     Accepted(Command),
     Refused(u8),

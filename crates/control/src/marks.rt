@@ -8,7 +8,7 @@ ghost use Rattle.control.specs.declared.ControlRead.TheVariants.{Refused};
 use crate::ControlRead;
 use access::{Access, Level, Mode};
 
-#[derive(Drop)]
+#[derive(Clone, Copy)]
 pub struct Marks {
     pub admin: bool,
     pub member: bool,

@@ -1,4 +1,6 @@
 // The writer of control packets.
+#![tactic(auto)]
+
 mod payloads;
 
 ghost use Rattle.wire.specs.Writing.{Writes};

@@ -1,4 +1,6 @@
 // CRC-16 with polynomial 1021, two bytes at a time, by two tables.
+#![tactic(auto)]
+
 mod tables;
 
 ghost use Rattle.std.specs.Prelude.{◌≡◌, ◌<◌};

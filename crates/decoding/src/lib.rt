@@ -1,4 +1,6 @@
 // The capture decoder as a program: a line of text for each event, and what reads standard input and prints them.
+#![tactic(auto)]
+
 ghost use Rattle.std.specs.Prelude.{◌≡◌, ◌+◌, ◌≤◌, length};
 ghost use Rattle.text.specs.Puts.{Puts};
 ghost use Rattle.decoding.specs.Decoding as specs;

@@ -4,6 +4,8 @@
 // Standard input lists them, an item each: NAME|KIND|NUMBERS|BYTES.
 // Kinds: n bytes as they are, p a plain message, s a message sealed for the first or the second session under a packet nonce's number;
 // r the line is received; c a phone's packet with its level, mode and number.
+#![tactic(auto)]
+
 mod opening;
 mod phone;
 
@@ -25,7 +27,7 @@ fn main() {
 }
 
 // Where the line ends, and the phone's connection session.
-#[derive(Drop)]
+#[derive(Clone, Copy)]
 struct After {
     at: usize,
     connection: Connection,

@@ -38,7 +38,7 @@ fn mode_of(letter: u8) -> Mode {
 }
 
 // Where the text of an answer ends, and the connection session after it.
-#[derive(Drop)]
+#[derive(Clone, Copy)]
 struct Answered {
     end: usize,
     connection: Connection,

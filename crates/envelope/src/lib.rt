@@ -1,4 +1,6 @@
 // Encrypted UART messages and characteristic packets: sealing, and the parts of opening that depend on their layout.
+#![tactic(auto)]
+
 mod drafts;
 mod opening;
 mod sealing;
@@ -14,7 +16,7 @@ pub use opening::{
 pub use sealing::{seal, seal_characteristic};
 
 // What the cipher of a sealer is given, or why it is not run.
-#[derive(Drop)]
+#[derive(Clone, Copy)]
 pub struct Draft {
     // A refusal's number; 0 for none.
     pub number: u8,

@@ -1,6 +1,8 @@
 // Runs the AES-128 vectors of FIPS 197 through the crate `aes`: prints how many values passed, and each that differs. A group of standard
 // input is its name, what its values are (which says what is run), the key, the input, and on each line a value behind its name; a group of
 // round keys has no input, a group of a box's rows no key either.
+#![tactic(auto)]
+
 ghost use Rattle.std.specs.Prelude.{◌+◌, ◌≤◌, ◌<◌, length};
 
 use libc::{STDIN_FILENO, STDOUT_FILENO};

@@ -1,4 +1,6 @@
 // The receiver of a serial line. Its progress, flags and counts, is passed by value through small functions; its store is lent.
+#![tactic(auto)]
+
 ghost use Rattle.std.specs.Prelude.{◌≡◌, false, ◌||◌, ◌+◌, ◌<◌, ◌≤◌, eqb, ltb, length, take};
 ghost use Rattle.line.specs.Receive as specs;
 ghost use Rattle.line.specs.Line.{Received};
@@ -8,7 +10,7 @@ ghost use Rattle.line.specs.Moves as moves;
 
 use wire::Part;
 
-#[derive(Drop)]
+#[derive(Clone, Copy)]
 pub struct Progress {
     // A start byte has come, and its frame is not at its end.
     pub inside: bool,
@@ -25,7 +27,7 @@ pub struct Progress {
 }
 
 // One record for the line: what has come of a frame, and the bytes after its size.
-#[derive(Drop)]
+#[derive(Clone, Copy)]
 pub struct Receiver {
     pub progress: Progress,
     pub store: [u8; 512],
@@ -33,7 +35,7 @@ pub struct Receiver {
 
 // What a byte gives: nothing, a frame whose bytes stand in the store, or a refusal's number and place: the count of bytes on the line from
 // the frame's start byte, itself 1, up to and including the byte that caused the refusal.
-#[derive(Drop)]
+#[derive(Clone, Copy)]
 pub enum Event {
     Nothing,
     Frame {
@@ -49,7 +51,7 @@ pub enum Event {
 }
 
 // The record after a byte, and its event.
-#[derive(Drop)]
+#[derive(Clone, Copy)]
 pub struct Step {
     pub receiver: Receiver,
     pub event: Event,
@@ -57,7 +59,7 @@ pub struct Step {
 
 // What is to be done with the store: nothing, a byte written, a frame's last byte written, or nothing and a refusal. `at` is a place of the
 // store, `place` that of a refusal.
-#[derive(Drop)]
+#[derive(Clone, Copy)]
 enum Action {
     Keep,
     Put {
@@ -77,7 +79,7 @@ enum Action {
 }
 
 // The progress after a byte, and what is to be done with the store.
-#[derive(Drop)]
+#[derive(Clone, Copy)]
 struct Move {
     progress: Progress,
     action: Action,
@@ -381,14 +383,14 @@ fn silent(e: Event) -> bool
 }
 
 // The progress after bytes that gave no event, and the place behind them.
-#[derive(Drop)]
+#[derive(Clone, Copy)]
 struct Skipped {
     progress: Progress,
     at: usize,
 }
 
 // An unescaped byte, and how many bytes it is on the line: 0 for a byte that is left to the step.
-#[derive(Drop)]
+#[derive(Clone, Copy)]
 struct Unescaped {
     byte: u8,
     width: usize,
@@ -516,7 +518,7 @@ fn skip(progress: Progress, store: &mut [u8; 512], s: &[u8], from: usize) -> Ski
 }
 
 // The progress after some bytes, the event that they ended with, and the place behind them.
-#[derive(Drop)]
+#[derive(Clone, Copy)]
 pub struct Advanced {
     pub progress: Progress,
     pub event: Event,

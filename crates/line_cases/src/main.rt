@@ -6,6 +6,8 @@
 //   LABEL|r|PROGRESS|STORE|BYTES   to a record: whether it is inside a frame, escaped, low, got, size and count, with spaces between;
 //                                  and the bytes of its store
 //   LABEL|w|TYPE|PAYLOAD|ROOM      the frame writer, with so many bytes EE for its room
+#![tactic(auto)]
+
 ghost use Rattle.std.specs.Prelude.{◌≤◌, ◌<◌, length};
 ghost use Rattle.line.specs.Line.{Received};
 
@@ -14,7 +16,7 @@ use text::reading;
 use wire::{Part, Written};
 
 // The record after some bytes, and the place behind the text of their events.
-#[derive(Drop)]
+#[derive(Clone, Copy)]
 struct Run {
     receiver: Receiver,
     at: usize,

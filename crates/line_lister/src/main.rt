@@ -1,5 +1,7 @@
 // The line lister: reads a capture of the serial line from standard input and prints `frame TYPE LENGTH` or `refused N PLACE` for each event,
 // then `end`.
+#![tactic(auto)]
+
 fn main() {
     listing::list_all();
 }

@@ -1,5 +1,7 @@
 // The lister of a capture of the serial line: a line of text for each event, and the loop that reads standard input and prints them, by way
 // of buffers.
+#![tactic(auto)]
+
 ghost use Rattle.std.specs.Prelude.{◌≡◌, ◌+◌, ◌≤◌, ◌<◌, length};
 ghost use Rattle.text.specs.Puts.{Puts};
 ghost use Rattle.line.specs.Receive.{holding};
@@ -76,7 +78,7 @@ pub fn event_numbers(out: &mut [u8], at: usize, e: Event) -> usize
 }
 
 // The receiver's progress after the bytes that were listed, the place behind them, and the place behind their lines.
-#[derive(Drop)]
+#[derive(Clone, Copy)]
 pub struct Listed {
     pub progress: Progress,
     pub used: usize,
@@ -138,7 +140,7 @@ fn list_read(r: Receiver, s: &[u8]) -> Receiver
 }
 
 // The receiver after a read, and what the read answered.
-#[derive(Drop)]
+#[derive(Clone, Copy)]
 struct Turn {
     receiver: Receiver,
     got: isize,

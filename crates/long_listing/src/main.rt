@@ -1,4 +1,6 @@
 // A long capture through the line lister: several reads, which cut frames, and several buffers of output. bench/line/long.py makes it.
+#![tactic(auto)]
+
 fn main() {
     listing::list_all();
 }

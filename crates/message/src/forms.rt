@@ -8,7 +8,7 @@ ghost use Rattle.message.specs.declared.MessageRead.TheVariants.{Refused};
 use crate::{Form, MessageRead};
 use access::{Access, Level};
 
-#[derive(Drop)]
+#[derive(Clone, Copy)]
 pub enum Allowed {
     PlainOnly,
     Either,

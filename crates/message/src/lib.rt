@@ -1,4 +1,6 @@
 // UART messages and their reader.
+#![tactic(auto)]
+
 mod bodies;
 mod forms;
 
@@ -14,14 +16,14 @@ use units::{Minutes, Seconds};
 use wire::Part;
 
 // How a message comes.
-#[derive(Drop)]
+#[derive(Clone, Copy)]
 pub enum Form {
     Plain,
     Encrypted,
 }
 
 // A part in a message counts from the start of the message's data; a command's from the start of its payload.
-#[derive(Drop)]
+#[derive(Clone, Copy)]
 pub enum Message {
     Hello(u8),
     SessionNonce(SessionNonceFields),
@@ -33,30 +35,30 @@ pub enum Message {
 }
 
 // The five bytes of a session nonce.
-#[derive(Drop)]
+#[derive(Clone, Copy)]
 pub struct Nonce(pub u8, pub u8, pub u8, pub u8, pub u8);
 
-#[derive(Drop)]
+#[derive(Clone, Copy)]
 pub struct SessionNonceFields {
     pub timeout: Minutes,
     pub nonce: Nonce,
 }
 
 // Kind: the status's type.
-#[derive(Drop)]
+#[derive(Clone, Copy)]
 pub struct StatusFields {
     pub kind: u8,
     pub flags: u8,
     pub data: Part,
 }
 
-#[derive(Drop)]
+#[derive(Clone, Copy)]
 pub struct HubReplyFields {
     pub code: u16,
     pub data: Part,
 }
 
-#[derive(Drop)]
+#[derive(Clone, Copy)]
 pub enum MessageRead {
     Accepted(Message),
     Refused(u8),

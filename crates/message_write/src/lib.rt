@@ -1,4 +1,6 @@
 // The writer of UART messages.
+#![tactic(auto)]
+
 mod bodies;
 
 ghost use Rattle.wire.specs.Writing.{Writes};

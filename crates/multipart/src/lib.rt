@@ -1,4 +1,6 @@
 // Messages in parts: the assembler, and the cutter. A part is a counter byte and some data.
+#![tactic(auto)]
+
 mod cutter;
 
 ghost use Rattle.std.specs.Prelude.{◌≡◌, ◌&&◌, ◌+◌, ◌≤◌, eqb, leb, length};
@@ -9,7 +11,7 @@ ghost use Rattle.multipart.specs.Assembler.{TakesPart};
 pub use cutter::cut;
 use wire::Part;
 
-#[derive(Drop)]
+#[derive(Clone, Copy)]
 pub struct Progress {
     // How many parts are gathered, 0 to 255.
     pub parts: usize,
@@ -20,14 +22,14 @@ pub struct Progress {
 }
 
 // One record: what is gathered of a message, and its bytes.
-#[derive(Drop)]
+#[derive(Clone, Copy)]
 pub struct Assembler {
     pub progress: Progress,
     pub store: [u8; 500],
 }
 
 // What a part gives: more is to come, a message of this length at the front of the store, or a refusal's number.
-#[derive(Drop)]
+#[derive(Clone, Copy)]
 pub enum PartAnswer {
     More,
     Message(usize),
@@ -35,14 +37,14 @@ pub enum PartAnswer {
 }
 
 // The record after a part, and its answer.
-#[derive(Drop)]
+#[derive(Clone, Copy)]
 pub struct Step {
     pub assembler: Assembler,
     pub answer: PartAnswer,
 }
 
 // The progress after a part, and its answer.
-#[derive(Drop)]
+#[derive(Clone, Copy)]
 pub struct Taken {
     pub progress: Progress,
     pub answer: PartAnswer,

@@ -5,6 +5,8 @@
 //                                  of its store; the parts
 //   LABEL|c|SIZE|MESSAGE|ROOM      the cutter, with so many bytes EE for its room; what it writes goes, SIZE + 1 bytes at a time, to a fresh record
 // Bytes are listed as 0709+00*96. An answer is printed as . where more is to come, as the message, or as a refusal.
+#![tactic(auto)]
+
 ghost use Rattle.std.specs.Prelude.{◌≤◌, ◌<◌, length};
 
 use multipart::{PartAnswer, Progress};

@@ -1,4 +1,6 @@
 // What the exports of both builds share: an opener's answer as one number, and the context that it is given.
+#![tactic(auto)]
+
 ghost use Rattle.std.specs.Prelude.{◌≡◌};
 ghost use Rattle.numbering.specs.Numbering.{packed, packed_command, packed_message, packed_answer, context_of};
 

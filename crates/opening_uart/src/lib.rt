@@ -1,4 +1,6 @@
 // What the opener of frames does beside the cipher: a build judges, runs its cipher and settles (`bridge_small`, `bridge_table`).
+#![tactic(auto)]
+
 ghost use Rattle.std.specs.Prelude.{◌≡◌, ◌+◌, ◌*◌, ◌≤◌, length};
 ghost use Rattle.wire.specs.Rules.{first_broken};
 ghost use Rattle.envelope.specs.Blocks.{blocks_in, nonce_number};

@@ -1,6 +1,8 @@
 // Prints what comes of the cases that standard input lists, a line each: LABEL:|KIND|WAYS OR NUMBERS|BYTES|PARTS|ROOM. A line of one field is a heading.
 // Kinds: c control packet, m message, r result packet, k the key with an index, l the level with a number, a a control packet in six ways;
 // wc, wm, wr writing a command, a message, a result packet; wp, wu a done result of get presence, of get uptime.
+#![tactic(auto)]
+
 mod readers;
 mod writers;
 

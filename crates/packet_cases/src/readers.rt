@@ -56,7 +56,7 @@ fn again(out: &mut [u8], at: usize, w: Written, room: &[u8], bytes: &[u8]) -> us
 }
 
 // What a reader made of a packet or a message; a result without fields of its own with what came of its command: 0 done, 1 waiting, 2 failed.
-#[derive(Drop)]
+#[derive(Clone, Copy)]
 enum Read {
     Refused(u8),
     Command(Command),

@@ -16,6 +16,8 @@
 //
 // Bytes are in base 16, with + between two pieces; 00*6 is six times 00. What comes of a case is one line: the label; the content and payload accepted, or
 // the refusal and its reply; the session as field 3 has it, or that it is kept; the work buffer.
+#![tactic(auto)]
+
 mod answer;
 mod given;
 
@@ -25,13 +27,13 @@ use text::reading;
 use wire::Part;
 
 // Where the text of an answer ends, and the session after it.
-#[derive(Drop)]
+#[derive(Clone, Copy)]
 struct AfterFrame {
     end: usize,
     session: Session,
 }
 
-#[derive(Drop)]
+#[derive(Clone, Copy)]
 struct AfterPacket {
     end: usize,
     connection: Connection,

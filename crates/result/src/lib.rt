@@ -1,4 +1,6 @@
 // Result packets: reader and writers.
+#![tactic(auto)]
+
 mod payloads;
 
 ghost use Rattle.std.specs.Prelude.{◌≡◌};
@@ -10,7 +12,7 @@ use units::Seconds;
 use wire::{Part, Written};
 
 // The command that is answered, its result code, and the payload as a part of the packet, or of the bytes lent to the writer.
-#[derive(Drop)]
+#[derive(Clone, Copy)]
 pub struct ResultPacket {
     pub command: u16,
     pub code: u16,
@@ -18,7 +20,7 @@ pub struct ResultPacket {
 }
 
 // A mask of rooms for each of eight profiles: bit n is set where room n is occupied.
-#[derive(Drop)]
+#[derive(Clone, Copy)]
 pub struct RoomMasks(
     pub u64,
     pub u64,
@@ -31,21 +33,21 @@ pub struct RoomMasks(
 );
 
 // Get presence, done.
-#[derive(Drop)]
+#[derive(Clone, Copy)]
 pub struct PresenceResult {
     pub code: u16,
     pub masks: RoomMasks,
 }
 
 // Get uptime, done: the time since boot.
-#[derive(Drop)]
+#[derive(Clone, Copy)]
 pub struct UptimeResult {
     pub code: u16,
     pub uptime: Seconds,
 }
 
 // Nobody gets at a result without seeing what came of the command, nor at masks or an uptime of one that is not done.
-#[derive(Drop)]
+#[derive(Clone, Copy)]
 pub enum ResultRead {
     Done(ResultPacket),
     Presence(PresenceResult),

@@ -1,6 +1,8 @@
 // Seals messages and control packets of several lengths, prints the answer and the whole room afterwards in base 16, and opens each image again. A line of
 // standard input is what is sealed, the mode, the level's number, how many bytes, how many bytes EE are lent as room, and the keys held, AMBS with - for one
 // that is absent. The stored output comes from another implementation of AES: bench/seal/vectors.py.
+#![tactic(auto)]
+
 ghost use Rattle.std.specs.Prelude.{◌≡◌, ◌≤◌, ◌<◌, length};
 
 use access::{Level, LevelRead, Mode};
@@ -13,7 +15,7 @@ const SESSION_NONCE: [u8; 5] = [0x51, 0x52, 0x53, 0x54, 0x55];
 
 const VALIDATION: [u8; 4] = [0xD0, 0xD1, 0xD2, 0xD3];
 
-#[derive(Drop)]
+#[derive(Clone, Copy)]
 struct Case {
     packet: bool,
     mode: Mode,

@@ -1,4 +1,6 @@
 // Sessions, connection sessions and the packet nonces that they remember; keys and which of them serves a level in a mode.
+#![tactic(auto)]
+
 mod memory;
 
 ghost use Rattle.std.specs.Prelude.{◌≡◌};
@@ -10,7 +12,7 @@ use access::{Level, LevelRead, Mode};
 use units::{Minutes, Seconds};
 
 // The packet nonces of the last encrypted messages that passed all of 10 to 13, each a number of three bytes.
-#[derive(Drop)]
+#[derive(Clone, Copy)]
 pub struct NonceMemory {
     // How many are remembered, 0 to 8.
     pub count: usize,
@@ -19,7 +21,7 @@ pub struct NonceMemory {
 }
 
 // The user's session. There is none where held is false, or where the memory's count is above 8 (`is_there`).
-#[derive(Drop)]
+#[derive(Clone, Copy)]
 pub struct Session {
     pub held: bool,
     pub nonce: [u8; 5],
@@ -29,7 +31,7 @@ pub struct Session {
 }
 
 // A connection session, which does not run out.
-#[derive(Drop)]
+#[derive(Clone, Copy)]
 pub struct Connection {
     pub held: bool,
     pub nonce: [u8; 5],
@@ -38,13 +40,13 @@ pub struct Connection {
 }
 
 // A key that may be absent.
-#[derive(Drop)]
+#[derive(Clone, Copy)]
 pub struct Key {
     pub held: bool,
     pub bytes: [u8; 16],
 }
 
-#[derive(Drop)]
+#[derive(Clone, Copy)]
 pub struct Keys {
     pub admin: Key,
     pub member: Key,

@@ -1,4 +1,6 @@
 // The session data: the block that a module hands out for a connection, read and written.
+#![tactic(auto)]
+
 ghost use Rattle.std.specs.Prelude.{◌≡◌, length};
 ghost use Rattle.wire.specs.Rules.{first_broken};
 ghost use Rattle.aes.specs.Cipher.{cipher};
@@ -11,14 +13,14 @@ use session::{Connection, Key, Keys};
 use wire::Written;
 
 // What a block gives: a connection session, or a refusal's number.
-#[derive(Drop)]
+#[derive(Clone, Copy)]
 pub enum DataAnswer {
     Accepted,
     Refused(u8),
 }
 
 // The answer, and the connection session after it.
-#[derive(Drop)]
+#[derive(Clone, Copy)]
 pub struct DataRead {
     pub answer: DataAnswer,
     pub connection: Connection,

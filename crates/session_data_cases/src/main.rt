@@ -3,6 +3,8 @@
 // bytes EE are lent as room, nonce and validation key. Behind a connection's validation key, unless its memory is empty, stand the memory's count and its
 // eight places, but for zero places at the end. Prints the answer and the connection after it, or all of the room and what was written read back.
 // The stored output comes from another implementation of AES: bench/session_data/outcomes.py.
+#![tactic(auto)]
+
 ghost use Rattle.std.specs.Prelude.{◌≤◌, length};
 
 use access::Mode;

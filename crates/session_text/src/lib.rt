@@ -1,5 +1,7 @@
 // The packet nonces that a session remembers, as a text: the count in decimal, and each place in base 16 as its three bytes stand in a packet, each behind a
 // space. Zero places at the end are left out, and an empty memory is no text.
+#![tactic(auto)]
+
 ghost use Rattle.std.specs.Prelude.{◌≡◌, ◌≤◌};
 ghost use Rattle.text.specs.Puts.{Puts};
 ghost use Rattle.session_text.specs.Memory as specs;

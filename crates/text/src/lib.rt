@@ -1,4 +1,6 @@
 // Texts of programs: bytes, decimal numbers and bytes in base 16 put into a lent room, and the fields of a line read back.
+#![tactic(auto)]
+
 pub mod reading;
 
 ghost use Rattle.std.specs.Prelude.{◌≡◌, ◌++◌, ◌∷◌, [], ◌<◌, ◌≤◌, length, drop};

@@ -1,4 +1,6 @@
 // What several crates need: parts of a slice, bytes compared, little-endian numbers, signed bytes, the answer of a writer.
+#![tactic(auto)]
+
 pub mod layouts;
 
 ghost use Rattle.std.specs.Prelude.{◌≡◌, ◌++◌, ◌∷◌, [], ◌+◌, ◌-◌, ◌%◌, ◌≤◌, ◌<◌, length, get_or};
@@ -10,14 +12,14 @@ ghost use Rattle.wire.specs.Signed.{signed, unsigned};
 ghost use Rattle.wire.specs.Writing.{Stores, no_room};
 
 // A part of a lent slice.
-#[derive(Drop)]
+#[derive(Clone, Copy)]
 pub struct Part {
     pub start: usize,
     pub len: usize,
 }
 
 // The answer of a writer: an image's length, or a refusal's number.
-#[derive(Drop)]
+#[derive(Clone, Copy)]
 pub enum Written {
     Wrote(usize),
     Refused(u8),
