@@ -1,0 +1,21 @@
+-- `decimal` meets its contract. Assumes nothing.
+use lib.ListN.{length-set}
+use Rattle.text.proofs.Digits.{Left, left_all, left_less, left_none}
+use Rattle.text.proofs.Puts.{puts_same}
+use Prim.Native.Nat.{◌-◌}
+use mathlib.Core.Path.{refl, ◌∙◌}
+use native.Mathlib.Omega.{arith}
+use borrow.Author.Rules.{rules}
+
+use Rattle.text.proofs.decimal.Goals as goal
+
+pub loop-rest-preserved : goal.loop-rest-preserved
+loop-rest-preserved c =
+    let l = c.loop-rest in
+    left_less l.invariant (l.i - 1) (omega arith) c.loop-rest-test.true c.digit.ensures
+
+pub returns : goal.returns
+returns c =
+    let f = c in
+    let l = f.loop-rest in
+    puts_same c.put.ensures (f.from.ensures ∙ left_none l.invariant (l.i - 1) (omega arith) (omega arith) f.digit-2.ensures)

@@ -1,0 +1,14 @@
+-- `number` meets its contract. Assumes nothing.
+use native.Mathlib.Omega.{arith}
+use lib.ListN.{length, drop}
+use mathlib.Core.Path.{◌≡◌, refl}
+use Prim.Native.Nat.{◌-◌, ◌≤◌}
+use Rattle.text.specs.Reading.{number, number_from}
+use Rattle.text.proofs.Fields.{number_at, number_low, number_high, number_past}
+use Rattle.text.proofs.reading.number.Given as goal
+
+abbrev pub invariant-loop-i : goal.invariant-loop-i
+invariant-loop-i l = (l.i ≤ length l.s) × (number_from l.n (drop l.i l.s) ≡ number l.s)
+
+abbrev pub decreases-loop-i : goal.decreases-loop-i
+decreases-loop-i l = length l.s - l.i
