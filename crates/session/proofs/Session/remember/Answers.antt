@@ -1,0 +1,14 @@
+-- `session::Session::remember` meets its contract. Assumes nothing.
+use mathlib.Core.Path.{sym, ◌∙◌}
+use Rattle.session.specs.Session.{session_remembering}
+use borrow.Author.Rules.{rules}
+
+use Rattle.session.proofs.Session.remember.Goals as goal
+
+pub returns-then-is_there : goal.returns-then-is_there
+unfolding session_remembering
+returns-then-is_there c = simp (sym c.is_there.ensures ∙ c.if-is_there.true, c.remember-next.ensures)
+
+pub returns : goal.returns
+unfolding session_remembering
+returns c = simp (sym c.is_there.ensures ∙ c.if-is_there.false)
