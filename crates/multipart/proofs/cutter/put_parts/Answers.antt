@@ -1,0 +1,30 @@
+-- `put_parts` meets its contract. The parts that remain, put where the loop stands, make the image. Assumes nothing.
+use mathlib.Core.Path.{◌≡◌, refl}
+use mathlib.Core.List.{flatten}
+use Prim.Native.Nat.{◌+◌, ◌-◌, ◌*◌, ◌≤◌}
+use native.Mathlib.Omega.{arith}
+use lib.ListN.{length, drop, length-take, length-drop}
+use lib.Seq.{sets}
+use Rattle.multipart.specs.Cutting.{parts, cut_after}
+use Rattle.multipart.proofs.Cutting.{remaining}
+use Rattle.multipart.proofs.Putting.{bytes_less, part_put, last_put}
+use Rattle.std.proofs.Common.{rules}
+use Rattle.multipart.proofs.cutter.put_parts.Goals as goal
+
+pub loop-k-preserved : goal.loop-k-preserved
+loop-k-preserved c =
+    let l = c in
+    let a = l.args in
+    let p = c.put_part in
+    let h = c.loop-k-test.true in (
+      omega arith,
+      omega (arith, bytes_less a.size h),
+      omega (arith, p.auto.out),
+      part_put a.size h l.loop-k.from a.message.now l.loop-k.out _ _ l.loop-k.invariant.1 p.ensures l.loop-k.invariant.3,
+    )
+
+pub returns : goal.returns
+returns c =
+    let l = c in
+    let a = l.args in
+    last_put a.size a.full l.loop-k.from a.message.now l.loop-k.out _ _ (omega arith) c.put_part-2.ensures l.loop-k.invariant.3

@@ -1,0 +1,24 @@
+-- `out_of_turn` meets its contract. Assumes nothing.
+use mathlib.Core.Path.{sym, ◌∙◌}
+use borrow.Author.Tests.{eq-eqb, ne_eqb}
+use borrow.Author.Rules.{rules}
+use Rattle.multipart.specs.Assembler.{out_of_turn}
+use Rattle.multipart.proofs.OnePart.{first_fits}
+
+use Rattle.multipart.proofs.out_of_turn.Goals as goal
+
+pub returns-then-counter-eq255 : goal.returns-then-counter-eq255
+unfolding out_of_turn
+returns-then-counter-eq255 c = simp (eq-eqb _ _ c.if-counter-eq255.true, c.gathered.ensures)
+
+pub returns-then-is_first : goal.returns-then-is_first
+unfolding out_of_turn
+returns-then-is_first c =
+    let a = c in
+    simp (ne_eqb _ _ a.if-counter-eq255.false, sym a.is_first.ensures ∙ a.if-is_first.true, c.put.ensures, c.gathered-then-is_first.ensures)
+
+pub returns : goal.returns
+unfolding out_of_turn
+returns c =
+    let a = c in
+    simp (ne_eqb _ _ a.if-counter-eq255.false, sym a.is_first.ensures ∙ c.if-is_first.false, c.discarding.ensures)

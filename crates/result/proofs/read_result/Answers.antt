@@ -1,0 +1,18 @@
+-- `read_result` meets its contract. Assumes nothing.
+use Prim.Native.Nat.{◌+◌}
+use native.Mathlib.Omega.{arith}
+use lib.ListN.{length}
+use borrow.Author.Tests.{eq-eqb, ne_eqb}
+use Rattle.wire.specs.Numbers.{num}
+use Rattle.wire.proofs.Fields.{to_end}
+use Rattle.result.proofs.Meaning.{reads_result}
+use borrow.Author.Rules.{rules}
+
+use Rattle.result.proofs.read_result.Goals as goal
+
+pub returns : goal.returns
+returns c =
+    let p = c.args.packet.now in
+    reads_result p
+    (simp (eq-eqb _ _ (rw c.read_u16.ensures.0 at c.if-packet-read_u16.false), eq-eqb _ _ c.if-packet-ne5.false)
+    (rw (c.read_u16-2.ensures.0, c.read_u16-3.ensures.0, to_end p 7) at c.read_payload.ensures))
