@@ -2,6 +2,8 @@
 // its offset first, then `end`.
 #![tactic(auto)]
 
-fn main() {
-    decoding::decode_all();
+use std::io;
+
+fn main(rt: HostRuntime) -> io::Result<()> {
+    decoding::decode_all(&rt)
 }

@@ -1,13 +1,13 @@
 // The capture decoder as a program: a line of text for each event, and what reads standard input and prints them.
 #![tactic(auto)]
 
-ghost use Rattle.std.specs.Prelude.{◌≡◌, ◌+◌, ◌≤◌, length};
+ghost use Rattle.std.specs.Prelude.{◌≡◌, ◌+◌, ◌≤◌, length, IfOk};
 ghost use Rattle.text.specs.Puts.{Puts};
 ghost use Rattle.decoding.specs.Decoding as specs;
 
 use capture::Decoded;
-use libc::{STDERR_FILENO, STDIN_FILENO, STDOUT_FILENO};
 use line::Event;
+use std::io;
 use wire::Part;
 
 // Behind a refusal's number and place, when it is given: the words of document 01's table.
@@ -73,33 +73,36 @@ pub fn event_line(out: &mut [u8], at: usize, offset: usize, e: Event, payload: &
 }
 
 // An entry's line is printed; the answer is where the next payload starts.
-fn print_line(entry: u64, payloads: &[u8], start: usize) -> usize
+fn print_line<R: Print>(rt: &R, entry: u64, payloads: &[u8], start: usize) -> io::Result<usize>
     requires { start ≤ 4294967296 }
-    ensures { result ≤ start + 65535 }
+    ensures { IfOk result (λ n. n ≤ start + 65535) }
 {
     let e = capture::event_of(entry);
     let len = capture::length_of(entry);
     let payload = wire::part_of(payloads, Part { start, len });
     let mut out = [0u8; 160];
     let n = event_line(&mut out, 0, capture::offset_of(entry), e, payload);
-    io::write_all(
-        STDOUT_FILENO,
-        wire::part_of(&out, Part { start: 0, len: n }),
-    );
-    start + len
+    rt.write_all(wire::part_of(&out, Part { start: 0, len: n }))?;
+    Ok(start + len)
 }
 
 // The lines of the first entries are printed.
-fn print_lines(list: &[u64; 65536], count: usize, payloads: &[u8]) {
+fn print_lines<R: Print>(
+    rt: &R,
+    list: &[u64; 65536],
+    count: usize,
+    payloads: &[u8],
+) -> io::Result<()> {
     let mut start: usize = 0;
     let mut k: usize = 0;
     while k < 65536 {
         if count <= k {
-            return;
+            return Ok(());
         }
-        start = print_line(list[k], payloads, start);
+        start = print_line(rt, list[k], payloads, start)?;
         k += 1;
     }
+    Ok(())
 }
 
 // 65,536 entries: no capture has more events.
@@ -116,43 +119,27 @@ fn capture_room() -> [u8; 65537]
     [0; 65537]
 }
 
-// Whether standard input is at its end, and not merely unreadable.
-fn at_end() -> bool {
-    let mut one = [0u8; 1];
-    libc::read(STDIN_FILENO, &mut one) == 0
-}
-
 // A capture is decoded and its events printed, then `end`. 17 is the only refusal that can come: the list and the buffer are as long as any
 // capture that is decoded.
-fn print_capture(capture: &[u8]) {
+fn print_capture<R: Print + Eprint>(rt: &R, capture: &[u8]) -> io::Result<()> {
     let mut list = entries_room();
-    let mut payloads = io::large_buffer();
+    let mut payloads = console::large_buffer();
     match capture::decode(capture, &mut list, &mut payloads) {
         Decoded::Events { entries, bytes: _ } => {
-            print_lines(&list, entries, &payloads);
-            io::write_all(STDOUT_FILENO, b"end\n");
+            print_lines(rt, &list, entries, &payloads)?;
+            rt.write_all(b"end\n")
         }
         Decoded::Refused(_) => {
-            io::write_all(
-                STDERR_FILENO,
-                b"capture_decoder: more than 65536 bytes; the line lister, ./list, takes any length\n",
-            );
+            eprintln!(rt;
+                "capture_decoder: more than 65536 bytes; the line lister, ./list, takes any length"
+            )
         }
     }
 }
 
 // Standard input, a whole capture, is decoded.
-pub fn decode_all() {
+pub fn decode_all<R: Input + Print + Eprint>(rt: &R) -> io::Result<()> {
     let mut buf = capture_room();
-    let n = io::read_full(STDIN_FILENO, &mut buf);
-    if n <= 65536 {
-        if !at_end() {
-            io::write_all(
-                STDERR_FILENO,
-                b"capture_decoder: cannot read standard input\n",
-            );
-            return;
-        }
-    }
-    print_capture(&buf[..n]);
+    let n = console::read_full(rt, &mut buf)?;
+    print_capture(rt, &buf[..n])
 }

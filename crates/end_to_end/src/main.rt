@@ -11,6 +11,7 @@ mod phone;
 
 use access::Mode;
 use session::{Connection, Key, Keys};
+use std::io;
 use text::reading;
 use wire::{Part, Written};
 
@@ -19,11 +20,11 @@ const FIRST: [u8; 5] = [0x7E, 0x5C, 1, 2, 3];
 
 const SECOND: [u8; 5] = [0xA1, 0xA2, 0xA3, 0xA4, 0xA5];
 
-fn main() {
-    let mut buffer = io::buffer();
-    let n = io::read_full(0, &mut buffer);
-    items(&buffer[..n]);
-    io::write_all(1, b"end\n");
+fn main(rt: HostRuntime) -> io::Result<()> {
+    let mut buffer = [0u8; 4096];
+    let n = console::read_full(&rt, &mut buffer)?;
+    items(&rt, &buffer[..n])?;
+    rt.write_all(b"end\n")
 }
 
 // Where the line ends, and the phone's connection session.
@@ -33,7 +34,7 @@ struct After {
     connection: Connection,
 }
 
-fn items(s: &[u8]) {
+fn items<R: Print>(rt: &R, s: &[u8]) -> io::Result<()> {
     let mut line = [0u8; 8192];
     let mut after = After {
         at: 0,
@@ -42,13 +43,14 @@ fn items(s: &[u8]) {
     let n = reading::count(s, b'\n');
     let mut k: usize = 0;
     while k < n {
-        let next = item(&mut line, after, reading::field(s, b'\n', k));
+        let next = item(rt, &mut line, after, reading::field(s, b'\n', k))?;
         after = next;
         k += 1;
     }
+    Ok(())
 }
 
-fn item(line: &mut [u8], before: After, s: &[u8]) -> After {
+fn item<R: Print>(rt: &R, line: &mut [u8], before: After, s: &[u8]) -> io::Result<After> {
     let mut room = [0u8; 512];
     let n = reading::bytes(&mut room, 0, reading::field(s, b'|', 3));
     let bytes = wire::part_of(&room, Part { start: 0, len: n });
@@ -56,29 +58,36 @@ fn item(line: &mut [u8], before: After, s: &[u8]) -> After {
     let kind = wire::byte_at(reading::field(s, b'|', 1), 0);
     let connection = before.connection;
     if kind == b'c' {
-        let next = phone::packet(v, bytes, connection);
-        return After {
+        let next = phone::packet(rt, v, bytes, connection)?;
+        return Ok(After {
             at: before.at,
             connection: next,
-        };
+        });
     }
-    After {
-        at: on_line(line, before.at, kind, v, bytes),
+    Ok(After {
+        at: on_line(rt, line, before.at, kind, v, bytes)?,
         connection,
-    }
+    })
 }
 
 // What an item puts on the line from a place on; the place behind it.
-fn on_line(line: &mut [u8], at: usize, kind: u8, v: &[u8], bytes: &[u8]) -> usize {
+fn on_line<R: Print>(
+    rt: &R,
+    line: &mut [u8],
+    at: usize,
+    kind: u8,
+    v: &[u8],
+    bytes: &[u8],
+) -> io::Result<usize> {
     match kind {
-        b'n' => text::put(line, at, bytes),
-        b'p' => framed(line, at, 0, bytes),
-        b's' => sealed(line, at, v, bytes),
+        b'n' => Ok(text::put(line, at, bytes)),
+        b'p' => framed(rt, line, at, 0, bytes),
+        b's' => sealed(rt, line, at, v, bytes),
         b'r' => {
-            opening::receive(wire::part_of(line, Part { start: 0, len: at }));
-            at
+            opening::receive(rt, wire::part_of(line, Part { start: 0, len: at }))?;
+            Ok(at)
         }
-        _ => at,
+        _ => Ok(at),
     }
 }
 
@@ -88,18 +97,28 @@ fn nonce(v: &[u8]) -> [u8; 3] {
 }
 
 // What a writer refuses is printed, and leaves the line as it is.
-fn refused(at: usize, n: u8) -> usize {
+fn refused<R: Print>(rt: &R, at: usize, n: u8) -> io::Result<usize> {
     let mut out = [0u8; 64];
     let end = text::named(&mut out, 0, b"writer refused ", n as u64);
-    opening::end_line(&mut out, end);
-    at
+    opening::end_line(rt, &mut out, end)?;
+    Ok(at)
 }
 
-fn framed(line: &mut [u8], at: usize, wrapper: u8, payload: &[u8]) -> usize {
+fn framed<R: Print>(
+    rt: &R,
+    line: &mut [u8],
+    at: usize,
+    wrapper: u8,
+    payload: &[u8],
+) -> io::Result<usize> {
     let mut room = [0u8; 1100];
     match frame::write_frame(wrapper, payload, &mut room) {
-        Written::Wrote(n) => text::put(line, at, wire::part_of(&room, Part { start: 0, len: n })),
-        Written::Refused(n) => refused(at, n),
+        Written::Wrote(n) => Ok(text::put(
+            line,
+            at,
+            wire::part_of(&room, Part { start: 0, len: n }),
+        )),
+        Written::Refused(n) => refused(rt, at, n),
     }
 }
 
@@ -124,17 +143,24 @@ fn session_of(number: u64) -> [u8; 5] {
     SECOND
 }
 
-fn sealed(line: &mut [u8], at: usize, v: &[u8], message: &[u8]) -> usize {
+fn sealed<R: Print>(
+    rt: &R,
+    line: &mut [u8],
+    at: usize,
+    v: &[u8],
+    message: &[u8],
+) -> io::Result<usize> {
     let session = session_of(reading::number(v));
     let nonce = nonce(reading::field(v, b' ', 1));
     let mut room = [0u8; 512];
     match envelope::seal(keys(), Mode::Normal, nonce, session, message, &mut room) {
         Written::Wrote(n) => framed(
+            rt,
             line,
             at,
             128,
             wire::part_of(&room, Part { start: 0, len: n }),
         ),
-        Written::Refused(n) => refused(at, n),
+        Written::Refused(n) => refused(rt, at, n),
     }
 }

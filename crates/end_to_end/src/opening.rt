@@ -3,6 +3,7 @@ use access::Mode;
 use bridge::{Answer, Context, Place, Refusal, Reply};
 use line::{Event, Progress, Receiver};
 use session::Session;
+use std::io;
 use units::Seconds;
 use wire::Part;
 
@@ -21,7 +22,7 @@ fn caught() -> Receiver {
     }
 }
 
-pub fn receive(line: &[u8]) {
+pub fn receive<R: Print>(rt: &R, line: &[u8]) -> io::Result<()> {
     let mut receiver = caught();
     let mut session = Session::none();
     let mut i: usize = 0;
@@ -30,16 +31,22 @@ pub fn receive(line: &[u8]) {
         let next = s.receiver;
         receiver = next;
         let event = s.event;
-        let after = handle(event, receiver, session);
+        let after = handle(rt, event, receiver, session)?;
         session = after;
         i += 1;
     }
+    Ok(())
 }
 
 // Opens a frame or writes a refusal; the session after it.
-fn handle(event: Event, receiver: Receiver, session: Session) -> Session {
+fn handle<R: Print>(
+    rt: &R,
+    event: Event,
+    receiver: Receiver,
+    session: Session,
+) -> io::Result<Session> {
     match event {
-        Event::Nothing => session,
+        Event::Nothing => Ok(session),
         Event::Frame {
             major,
             minor,
@@ -48,6 +55,7 @@ fn handle(event: Event, receiver: Receiver, session: Session) -> Session {
         } => {
             let store = receiver.store;
             open(
+                rt,
                 major,
                 minor,
                 wrapper,
@@ -56,27 +64,34 @@ fn handle(event: Event, receiver: Receiver, session: Session) -> Session {
             )
         }
         Event::Refused { number, place } => {
-            receiver_refused(number, place);
-            session
+            receiver_refused(rt, number, place)?;
+            Ok(session)
         }
     }
 }
 
 // Writes the line that ends at a place.
-pub fn end_line(out: &mut [u8], at: usize) {
+pub fn end_line<R: Print>(rt: &R, out: &mut [u8], at: usize) -> io::Result<()> {
     let n = text::put(out, at, b"\n");
-    io::write_all(1, wire::part_of(out, Part { start: 0, len: n }));
+    rt.write_all(wire::part_of(out, Part { start: 0, len: n }))
 }
 
-fn receiver_refused(number: u8, place: usize) {
+fn receiver_refused<R: Print>(rt: &R, number: u8, place: usize) -> io::Result<()> {
     let mut out = [0u8; 64];
     let a = text::named(&mut out, 0, b"receiver refused ", number as u64);
     let b = text::named(&mut out, a, b" ", place as u64);
-    end_line(&mut out, b);
+    end_line(rt, &mut out, b)
 }
 
 // The work buffer holds other bytes at each opening.
-fn open(major: u8, minor: u8, wrapper: u8, payload: &[u8], session: Session) -> Session {
+fn open<R: Print>(
+    rt: &R,
+    major: u8,
+    minor: u8,
+    wrapper: u8,
+    payload: &[u8],
+    session: Session,
+) -> io::Result<Session> {
     let mut work = [0xEEu8; 496];
     let context = Context {
         session,
@@ -87,15 +102,15 @@ fn open(major: u8, minor: u8, wrapper: u8, payload: &[u8], session: Session) -> 
     };
     let opened = bridge::uart::open(major, minor, wrapper, payload, context, &mut work);
     let answer = opened.answer;
-    show(answer, payload, &work);
+    show(rt, answer, payload, &work)?;
     let after = opened.session;
-    after
+    Ok(after)
 }
 
-fn show<'a>(answer: Answer, payload: &'a [u8], work: &'a [u8]) {
+fn show<'a, R: Print>(rt: &R, answer: Answer, payload: &'a [u8], work: &'a [u8]) -> io::Result<()> {
     let mut out = [0u8; 2048];
     let a = answer_text(&mut out, answer, payload, work);
-    end_line(&mut out, a);
+    end_line(rt, &mut out, a)
 }
 
 fn answer_text<'a>(out: &mut [u8], answer: Answer, payload: &'a [u8], work: &'a [u8]) -> usize {

@@ -2,6 +2,7 @@
 use access::{Level, LevelRead, Mode};
 use bridge::{CommandAnswer, Link};
 use session::{Connection, Key, Keys, NonceMemory};
+use std::io;
 use text::reading;
 use wire::{Part, Written};
 
@@ -45,15 +46,20 @@ struct Answered {
 }
 
 // One line: the level, and what the opener makes of what the sealer wrote; the connection session after it.
-pub fn packet(v: &[u8], bytes: &[u8], connection: Connection) -> Connection {
+pub fn packet<R: Print>(
+    rt: &R,
+    v: &[u8],
+    bytes: &[u8],
+    connection: Connection,
+) -> io::Result<Connection> {
     let mut out = [0u8; 1024];
     let number = (reading::number(v) % 256) as u8;
     let a = text::named(&mut out, 0, b"level ", number as u64);
     let b = text::put(&mut out, a, b": ");
     let answered = answer(&mut out, b, number, v, bytes, connection);
-    crate::opening::end_line(&mut out, answered.end);
+    crate::opening::end_line(rt, &mut out, answered.end)?;
     let after = answered.connection;
-    after
+    Ok(after)
 }
 
 fn answer(

@@ -3,9 +3,9 @@
 // round keys has no input, a group of a box's rows no key either.
 #![tactic(auto)]
 
-ghost use Rattle.std.specs.Prelude.{◌+◌, ◌≤◌, ◌<◌, length};
+ghost use Rattle.std.specs.Prelude.{◌+◌, ◌≤◌, ◌<◌, length, IfOk};
 
-use libc::{STDIN_FILENO, STDOUT_FILENO};
+use std::io;
 use text::reading;
 use wire::Part;
 
@@ -22,32 +22,32 @@ fn block(s: &[u8]) -> [u8; 16] {
 }
 
 // 1 where a value is the one that a line lists; else 0, and both are printed.
-fn agrees(got: [u8; 16], listed: &[u8]) -> usize
-    ensures { result ≤ 1 }
+fn agrees<R: Print>(rt: &R, got: [u8; 16], listed: &[u8]) -> io::Result<usize>
+    ensures { IfOk result (λ n. n ≤ 1) }
 {
     let wanted = block(reading::field(listed, b' ', 1));
     if check::same(&got, &wanted) {
-        return 1;
+        return Ok(1);
     }
     let mut digits = [b'\n'; 33];
     text::hex(&mut digits, 0, &got);
-    io::write_all(STDOUT_FILENO, listed);
-    io::write_all(STDOUT_FILENO, b", got ");
-    io::write_all(STDOUT_FILENO, &digits);
-    0
+    rt.write_all(listed)?;
+    rt.write_all(b", got ")?;
+    rt.write_all(&digits)?;
+    Ok(0)
 }
 
 // How many values a group lists.
-fn passed(group: &[u8], got: &[[u8; 16]]) -> usize
+fn passed<R: Print>(rt: &R, group: &[u8], got: &[[u8; 16]]) -> io::Result<usize>
     requires { length got.now < 1000 }
 {
     let mut n: usize = 0;
     let mut i: usize = 0;
     while i < got.len() {
-        n += agrees(got[i], line(group, i + 5));
+        n += agrees(rt, got[i], line(group, i + 5))?;
         i += 1;
     }
-    n
+    Ok(n)
 }
 
 // The five values of a round, stored from a place on.
@@ -146,60 +146,61 @@ fn box_rows(back: bool) -> [[u8; 16]; 16] {
 }
 
 // `NAME: N of M values passed`.
-fn summary(group: &[u8], got: &[[u8; 16]], out: &mut [u8]) -> usize
+fn summary<R: Print>(rt: &R, group: &[u8], got: &[[u8; 16]], out: &mut [u8]) -> io::Result<usize>
     requires { length got.now < 1000 }
 {
-    let n = passed(group, got);
+    let n = passed(rt, group, got)?;
     let a = text::put(out, 0, line(group, 1));
     let b = text::named(out, a, b": ", n as u64);
     let c = text::named(out, b, b" of ", got.len() as u64);
     let d = text::put(out, c, line(group, 2));
-    text::put(out, d, b"\n")
+    Ok(text::put(out, d, b"\n"))
 }
 
 // A group under a key.
-fn run_keyed(group: &[u8], out: &mut [u8]) -> usize {
+fn run_keyed<R: Print>(rt: &R, group: &[u8], out: &mut [u8]) -> io::Result<usize> {
     let keys = aes::expand_key(block(line(group, 3)));
     let input = block(line(group, 4));
     let what = line(group, 2);
     if check::same(what, b" values passed") {
         let all = values(&keys, input);
-        return summary(group, &all, out);
+        return summary(rt, group, &all, out);
     }
     if check::same(what, b" values of the inverse cipher passed") {
         let all = inv_values(&keys, input);
-        return summary(group, &all, out);
+        return summary(rt, group, &all, out);
     }
     if check::same(what, b" outputs of the inverse cipher passed") {
         let output = [aes::decrypt_block(&keys, input)];
-        return summary(group, &output, out);
+        return summary(rt, group, &output, out);
     }
-    summary(group, &keys, out)
+    summary(rt, group, &keys, out)
 }
 
 // A group, and its summary in the room.
-fn run(group: &[u8], out: &mut [u8]) -> usize {
+fn run<R: Print>(rt: &R, group: &[u8], out: &mut [u8]) -> io::Result<usize> {
     let what = line(group, 2);
     if check::same(what, b" rows of the box passed") {
         let rows = box_rows(false);
-        return summary(group, &rows, out);
+        return summary(rt, group, &rows, out);
     }
     if check::same(what, b" rows of the inverse box passed") {
         let rows = box_rows(true);
-        return summary(group, &rows, out);
+        return summary(rt, group, &rows, out);
     }
-    run_keyed(group, out)
+    run_keyed(rt, group, out)
 }
 
-fn main() {
+fn main(rt: HostRuntime) -> io::Result<()> {
     let mut room = [0u8; 16384];
-    let n = io::read_full(STDIN_FILENO, &mut room);
+    let n = console::read_full(&rt, &mut room)?;
     let groups = wire::part_of(&room, Part { start: 0, len: n });
     let mut out = [0u8; 128];
     let mut k: usize = 0;
     while k < reading::count(groups, b'/') {
-        let len = run(reading::field(groups, b'/', k + 1), &mut out);
-        io::write_all(STDOUT_FILENO, wire::part_of(&out, Part { start: 0, len }));
+        let len = run(&rt, reading::field(groups, b'/', k + 1), &mut out)?;
+        rt.write_all(wire::part_of(&out, Part { start: 0, len }))?;
         k += 1;
     }
+    Ok(())
 }

@@ -12,6 +12,7 @@ ghost use Rattle.std.specs.Prelude.{◌≤◌, ◌<◌, length};
 ghost use Rattle.line.specs.Line.{Received};
 
 use line::{Event, Progress, Receiver, Step};
+use std::io;
 use text::reading;
 use wire::{Part, Written};
 
@@ -248,26 +249,27 @@ fn outcome(out: &mut [u8], at: usize, line: &[u8]) -> usize {
 }
 
 // One line of the output.
-fn case(line: &[u8]) {
+fn case<R: Print>(rt: &R, line: &[u8]) -> io::Result<()> {
     let mut out = [0u8; 8192];
     let label = text::put(&mut out, 0, reading::field(line, b'|', 0));
     let start = text::put(&mut out, label, b":");
     let end = outcome(&mut out, start, line);
     let all = text::put(&mut out, end, b"\n");
-    io::write_all(1, front(&out, all));
+    rt.write_all(front(&out, all))
 }
 
-fn main() {
-    let mut buffer = io::large_buffer();
-    let n = io::read_full(0, &mut buffer);
-    cases(&buffer[..n]);
+fn main(rt: HostRuntime) -> io::Result<()> {
+    let mut buffer = console::large_buffer();
+    let n = console::read_full(&rt, &mut buffer)?;
+    cases(&rt, &buffer[..n])
 }
 
-fn cases(s: &[u8]) {
+fn cases<R: Print>(rt: &R, s: &[u8]) -> io::Result<()> {
     let n = reading::count(s, b'\n');
     let mut k: usize = 0;
     while k < n {
-        case(reading::field(s, b'\n', k));
+        case(rt, reading::field(s, b'\n', k))?;
         k += 1;
     }
+    Ok(())
 }

@@ -2,6 +2,8 @@
 // then `end`.
 #![tactic(auto)]
 
-fn main() {
-    listing::list_all();
+use std::io;
+
+fn main(rt: HostRuntime) -> io::Result<()> {
+    listing::list_all(&rt)
 }

@@ -2,14 +2,15 @@
 // of buffers.
 #![tactic(auto)]
 
-ghost use Rattle.std.specs.Prelude.{◌≡◌, ◌+◌, ◌≤◌, ◌<◌, length};
+ghost use Rattle.std.specs.Prelude.{◌≡◌, ◌+◌, ◌≤◌, ◌<◌, length, IfOk};
 ghost use Rattle.text.specs.Puts.{Puts};
 ghost use Rattle.line.specs.Receive.{holding};
 ghost use Rattle.line.specs.Line.{after};
 ghost use Rattle.listing.specs.Listing.{event_words, event_text, event_numbers, Lists};
 
-use libc::{STDERR_FILENO, STDIN_FILENO, STDOUT_FILENO};
 use line::{Event, Progress, Receiver};
+use std::io;
+use std::io::Read;
 
 // `frame TYPE LENGTH` or `refused N PLACE`, nothing where there is no event: put into `out` from `at` on; the answer is where it ends.
 pub fn event_words(out: &mut [u8], at: usize, e: Event) -> usize
@@ -115,15 +116,15 @@ pub fn list_some(
 }
 
 // The first bytes of a buffer are written out.
-fn write_out(out: &[u8], n: usize)
+fn write_out<R: Print>(rt: &R, out: &[u8], n: usize) -> io::Result<()>
     requires { n ≤ length out.now }
 {
-    io::write_all(STDOUT_FILENO, &out[..n]);
+    rt.write_all(&out[..n])
 }
 
 // The receiver gets all bytes of a read, and each event is listed.
-fn list_read(r: Receiver, s: &[u8]) -> Receiver
-    ensures { result ≡ after s.now r }
+fn list_read<R: Print>(rt: &R, r: Receiver, s: &[u8]) -> io::Result<Receiver>
+    ensures { IfOk result (λ x. x ≡ after s.now r) }
 {
     let mut progress = r.progress;
     let mut store = r.store;
@@ -131,52 +132,43 @@ fn list_read(r: Receiver, s: &[u8]) -> Receiver
     let mut used = 0;
     while used < s.len() {
         let l = list_some(progress, &mut store, s, used, &mut out);
-        write_out(&out, l.at);
+        write_out(rt, &out, l.at)?;
         let after = l.progress;
         progress = after;
         used = l.used;
     }
-    Receiver { progress, store }
+    Ok(Receiver { progress, store })
 }
 
-// The receiver after a read, and what the read answered.
+// The receiver after a read, and how many bytes the read gave.
 #[derive(Clone, Copy)]
 struct Turn {
     receiver: Receiver,
-    got: isize,
+    got: usize,
 }
 
 // One read, which may end inside a frame.
-fn read_some(r: Receiver) -> Turn {
-    let mut buf = io::large_buffer();
-    let got = libc::read(STDIN_FILENO, &mut buf);
-    let n = io::count(got, &buf);
-    let receiver = list_read(r, &buf[..n]);
-    Turn { receiver, got }
-}
-
-// The end of the capture, or that it cannot be read.
-fn finish(got: isize) {
-    if got < 0 {
-        io::write_all(STDERR_FILENO, b"line_lister: cannot read standard input\n");
-    } else {
-        io::write_all(STDOUT_FILENO, b"end\n");
-    }
+fn read_some<I: Read, R: Print>(input: &mut I, rt: &R, r: Receiver) -> io::Result<Turn> {
+    let mut buf = console::large_buffer();
+    let got = input.read(&mut buf)?;
+    let receiver = list_read(rt, r, &buf[..got])?;
+    Ok(Turn { receiver, got })
 }
 
 // Standard input is listed to its end. A proved loop has to end, and nothing shows that the input does: the turns are counted down, from a
 // number that no run uses up.
-pub fn list_all() {
+pub fn list_all<R: Input + Print>(rt: &R) -> io::Result<()> {
+    let mut input = rt.reader();
     let mut now = line::fresh();
     let mut turns = u64::MAX;
     while turns > 0 {
-        let t = read_some(now);
-        if t.got <= 0 {
-            finish(t.got);
-            return;
+        let t = read_some(&mut input, rt, now)?;
+        if t.got == 0 {
+            return rt.write_all(b"end\n");
         }
         let after = t.receiver;
         now = after;
         turns -= 1;
     }
+    Ok(())
 }

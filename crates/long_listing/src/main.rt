@@ -1,6 +1,8 @@
 // A long capture through the line lister: several reads, which cut frames, and several buffers of output. bench/line/long.py makes it.
 #![tactic(auto)]
 
-fn main() {
-    listing::list_all();
+use std::io;
+
+fn main(rt: HostRuntime) -> io::Result<()> {
+    listing::list_all(&rt)
 }

@@ -8,36 +8,38 @@ mod writers;
 
 ghost use Rattle.std.specs.Prelude.{◌≡◌, length};
 
+use std::io;
 use text::reading;
 use wire::Part;
 
-fn main() {
-    let mut buffer = io::large_buffer();
-    let n = io::read_full(0, &mut buffer);
-    lines(&buffer[..n]);
+fn main(rt: HostRuntime) -> io::Result<()> {
+    let mut buffer = console::large_buffer();
+    let n = console::read_full(&rt, &mut buffer)?;
+    lines(&rt, &buffer[..n])
 }
 
-fn lines(s: &[u8]) {
+fn lines<R: Print>(rt: &R, s: &[u8]) -> io::Result<()> {
     let n = reading::count(s, b'\n');
     let mut k: usize = 0;
     while k < n {
-        case(reading::field(s, b'\n', k));
+        case(rt, reading::field(s, b'\n', k))?;
         k += 1;
     }
+    Ok(())
 }
 
-fn case(line: &[u8]) {
+fn case<R: Print>(rt: &R, line: &[u8]) -> io::Result<()> {
     let mut room = full();
     let n = reading::bytes(&mut room, 0, reading::field(line, b'|', 3));
-    print(line, wire::part_of(&room, Part { start: 0, len: n }));
+    print(rt, line, wire::part_of(&room, Part { start: 0, len: n }))
 }
 
-fn print(line: &[u8], bytes: &[u8]) {
+fn print<R: Print>(rt: &R, line: &[u8], bytes: &[u8]) -> io::Result<()> {
     let mut out = [0u8; 4096];
     let a = text::put(&mut out, 0, reading::field(line, b'|', 0));
     let b = answer(&mut out, a, line, bytes);
     let n = text::put(&mut out, b, b"\n");
-    io::write_all(1, wire::part_of(&out, Part { start: 0, len: n }));
+    rt.write_all(wire::part_of(&out, Part { start: 0, len: n }))
 }
 
 fn answer(out: &mut [u8], at: usize, line: &[u8], bytes: &[u8]) -> usize {

@@ -21,8 +21,8 @@
 mod answer;
 mod given;
 
-use libc::{STDIN_FILENO, STDOUT_FILENO};
 use session::{Connection, Session};
+use std::io;
 use text::reading;
 use wire::Part;
 
@@ -119,9 +119,9 @@ fn opened(line: &[u8], out: &mut [u8], at: usize, work: &mut [u8], room: usize) 
     )
 }
 
-fn case(line: &[u8]) {
+fn case<R: Print>(rt: &R, line: &[u8]) -> io::Result<()> {
     if wire::byte_at(line, 0) == b'#' {
-        return;
+        return Ok(());
     }
     let mut work = [0xEEu8; 512];
     let mut out = [0u8; 4096];
@@ -129,23 +129,24 @@ fn case(line: &[u8]) {
     let room = reading::number(reading::field(line, b'|', 6)) as usize;
     let told = opened(line, &mut out, label, &mut work, room);
     let len = text::put(&mut out, told, b"\n");
-    io::write_all(STDOUT_FILENO, wire::part_of(&out, Part { start: 0, len }));
+    rt.write_all(wire::part_of(&out, Part { start: 0, len }))
 }
 
-fn cases(s: &[u8]) {
+fn cases<R: Print>(rt: &R, s: &[u8]) -> io::Result<()> {
     let mut at: usize = 0;
     while at < s.len() {
         let line = reading::field(&s[at..], b'\n', 0);
-        case(line);
+        case(rt, line)?;
         if s.len() - at <= line.len() {
-            return;
+            return Ok(());
         }
         at = at + line.len() + 1;
     }
+    Ok(())
 }
 
-fn main() {
+fn main(rt: HostRuntime) -> io::Result<()> {
     let mut input = [0u8; 131072];
-    let len = io::read_full(STDIN_FILENO, &mut input);
-    cases(wire::part_of(&input, Part { start: 0, len }));
+    let len = console::read_full(&rt, &mut input)?;
+    cases(&rt, wire::part_of(&input, Part { start: 0, len }))
 }

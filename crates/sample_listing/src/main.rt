@@ -1,6 +1,8 @@
 // The sample capture through the line lister.
 #![tactic(auto)]
 
-fn main() {
-    listing::list_all();
+use std::io;
+
+fn main(rt: HostRuntime) -> io::Result<()> {
+    listing::list_all(&rt)
 }

@@ -6,8 +6,8 @@
 ghost use Rattle.std.specs.Prelude.{◌≡◌, ◌≤◌, ◌<◌, length};
 
 use access::{Level, LevelRead, Mode};
-use libc::{STDIN_FILENO, STDOUT_FILENO};
 use session::{Key, Keys};
+use std::io;
 use text::reading;
 use wire::{Part, Written};
 
@@ -209,16 +209,17 @@ fn run(line: &[u8], image: &mut [u8], out: &mut [u8]) -> usize
     text::put(out, at, b"\n")
 }
 
-fn main() {
+fn main(rt: HostRuntime) -> io::Result<()> {
     let mut input = [0u8; 2048];
-    let n = io::read_full(STDIN_FILENO, &mut input);
+    let n = console::read_full(&rt, &mut input)?;
     let cases = front(&input, n);
     let mut out = [0u8; 2048];
     let mut k: usize = 0;
     while k < reading::count(cases, b'\n') {
         let mut image = [0xEEu8; 512];
         let len = run(reading::field(cases, b'\n', k), &mut image, &mut out);
-        io::write_all(STDOUT_FILENO, front(&out, len));
+        rt.write_all(front(&out, len))?;
         k += 1;
     }
+    Ok(())
 }

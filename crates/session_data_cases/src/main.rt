@@ -8,9 +8,9 @@
 ghost use Rattle.std.specs.Prelude.{◌≤◌, length};
 
 use access::Mode;
-use libc::{STDIN_FILENO, STDOUT_FILENO};
 use session::{Connection, Key, Keys};
 use session_data::{DataAnswer, DataRead};
+use std::io;
 use text::reading;
 use wire::{Part, Written};
 
@@ -170,15 +170,16 @@ fn run(line: &[u8], out: &mut [u8]) -> usize {
     text::put(out, c, b"\n")
 }
 
-fn main() {
+fn main(rt: HostRuntime) -> io::Result<()> {
     let mut input = [0u8; 65536];
-    let n = io::read_full(STDIN_FILENO, &mut input);
+    let n = console::read_full(&rt, &mut input)?;
     let cases = front(&input, n);
     let mut out = [0u8; 512];
     let mut k: usize = 0;
     while k < reading::count(cases, b'\n') {
         let len = run(reading::field(cases, b'\n', k), &mut out);
-        io::write_all(STDOUT_FILENO, front(&out, len));
+        rt.write_all(front(&out, len))?;
         k += 1;
     }
+    Ok(())
 }
