@@ -1,12 +1,9 @@
 -- `decimal` meets its contract. Assumes nothing.
-use lib.ListN.{length-set}
-use Rattle.text.proofs.Digits.{Left, left_all, left_less, left_none}
+use Rattle.text.proofs.Digits.{left_less, left_none}
 use Rattle.text.proofs.Puts.{puts_same}
 use Prim.Native.Nat.{◌-◌}
-use mathlib.Core.Path.{refl, ◌∙◌}
+use mathlib.Core.Path.{◌∙◌}
 use native.Mathlib.Omega.{arith}
-use borrow.Author.Rules.{rules}
-
 use Rattle.text.proofs.decimal.Goals as goal
 
 pub loop-rest-preserved : goal.loop-rest-preserved

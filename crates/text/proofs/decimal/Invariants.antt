@@ -1,11 +1,5 @@
 -- `decimal` meets its contract. Assumes nothing.
-use lib.ListN.{length-set}
-use Rattle.text.proofs.Digits.{Left, left_all, left_less, left_none}
-use Rattle.text.proofs.Puts.{puts_same}
-use Prim.Native.Nat.{◌-◌}
-use mathlib.Core.Path.{refl, ◌∙◌}
-use native.Mathlib.Omega.{arith}
-use borrow.Author.Rules.{rules}
+use Rattle.text.proofs.Digits.{Left}
 use Rattle.text.proofs.decimal.Given as goal
 
 abbrev pub invariant-loop-rest : goal.invariant-loop-rest

@@ -1,12 +1,7 @@
 -- `decimals` meets its contract. Assumes nothing.
-use Rattle.text.specs.Digits.{decimals}
 use Rattle.text.proofs.Digits.{decimals_at, decimals_past}
-use Rattle.text.proofs.Puts.{Leaves, leaves_all, leaves_less, leaves_length, leaves_none, puts_then}
-use Prim.Native.Nat.{◌≤◌, ◌-◌}
-use lib.ListN.{length, drop}
+use Rattle.text.proofs.Puts.{leaves_less, leaves_none, puts_then}
 use native.Mathlib.Omega.{arith}
-use borrow.Author.Rules.{rules}
-
 use Rattle.text.proofs.decimals.Goals as goal
 
 pub loop-i-preserved : goal.loop-i-preserved

@@ -1,11 +1,8 @@
 -- `decimals` meets its contract. Assumes nothing.
 use Rattle.text.specs.Digits.{decimals}
-use Rattle.text.proofs.Digits.{decimals_at, decimals_past}
-use Rattle.text.proofs.Puts.{Leaves, leaves_all, leaves_less, leaves_length, leaves_none, puts_then}
+use Rattle.text.proofs.Puts.{Leaves}
 use Prim.Native.Nat.{◌≤◌, ◌-◌}
 use lib.ListN.{length, drop}
-use native.Mathlib.Omega.{arith}
-use borrow.Author.Rules.{rules}
 use Rattle.text.proofs.decimals.Given as goal
 
 abbrev pub invariant-loop-i : goal.invariant-loop-i

@@ -1,7 +1,5 @@
 -- `named` meets its contract. Assumes nothing.
 use Rattle.text.proofs.Puts.{puts_then}
-use borrow.Author.Rules.{rules}
-
 use Rattle.text.proofs.named.Goals as goal
 
 pub returns : goal.returns

@@ -1,12 +1,10 @@
 -- `bytes` meets its contract. Assumes nothing.
-use borrow.Author.Rules.{rules}
 use native.Mathlib.Omega.{arith}
-use mathlib.Core.Path.{◌≡◌, ap}
-use Prim.Native.Nat.{suc, ◌+◌, ◌-◌, ◌≤◌}
-use Rattle.text.specs.Reading.{count, listed, fields_from, repeated}
-use Rattle.text.proofs.Puts.{Leaves, leaves_all, leaves_less, leaves_length, leaves_none, puts_same}
+use mathlib.Core.Path.{ap}
+use Prim.Native.Nat.{◌+◌, ◌-◌}
+use Rattle.text.specs.Reading.{repeated}
+use Rattle.text.proofs.Puts.{leaves_less, leaves_none, puts_same}
 use Rattle.text.proofs.Fields.{count_most, fields_at, fields_past}
-
 use Rattle.text.proofs.reading.bytes.Goals as goal
 
 pub overflow_add-k : goal.overflow_add-k

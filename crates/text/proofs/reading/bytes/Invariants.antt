@@ -1,11 +1,7 @@
 -- `bytes` meets its contract. Assumes nothing.
-use borrow.Author.Rules.{rules}
-use native.Mathlib.Omega.{arith}
-use mathlib.Core.Path.{◌≡◌, ap}
-use Prim.Native.Nat.{suc, ◌+◌, ◌-◌, ◌≤◌}
-use Rattle.text.specs.Reading.{count, listed, fields_from, repeated}
-use Rattle.text.proofs.Puts.{Leaves, leaves_all, leaves_less, leaves_length, leaves_none, puts_same}
-use Rattle.text.proofs.Fields.{count_most, fields_at, fields_past}
+use Prim.Native.Nat.{◌+◌, ◌-◌, ◌≤◌}
+use Rattle.text.specs.Reading.{listed, fields_from}
+use Rattle.text.proofs.Puts.{Leaves}
 use Rattle.text.proofs.reading.bytes.Given as goal
 
 abbrev pub invariant-loop-k : goal.invariant-loop-k

@@ -1,12 +1,6 @@
 -- `count` meets its contract. Assumes nothing.
-use borrow.Author.Rules.{rules}
 use native.Mathlib.Omega.{arith}
-use lib.ListN.{length, drop}
-use mathlib.Core.Path.{◌≡◌}
-use Prim.Native.Nat.{◌+◌, ◌-◌, ◌≤◌}
-use Rattle.text.specs.Reading.{count}
 use Rattle.text.proofs.Fields.{count_at, count_past}
-
 use Rattle.text.proofs.reading.count.Goals as goal
 
 pub loop-i-preserved : goal.loop-i-preserved

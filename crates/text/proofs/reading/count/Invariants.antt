@@ -1,11 +1,8 @@
 -- `count` meets its contract. Assumes nothing.
-use borrow.Author.Rules.{rules}
-use native.Mathlib.Omega.{arith}
 use lib.ListN.{length, drop}
 use mathlib.Core.Path.{◌≡◌}
 use Prim.Native.Nat.{◌+◌, ◌-◌, ◌≤◌}
 use Rattle.text.specs.Reading.{count}
-use Rattle.text.proofs.Fields.{count_at, count_past}
 use Rattle.text.proofs.reading.count.Given as goal
 
 abbrev pub invariant-loop-i : goal.invariant-loop-i

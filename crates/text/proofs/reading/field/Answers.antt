@@ -1,11 +1,8 @@
 -- `field` meets its contract. Assumes nothing.
 use native.Mathlib.Omega.{arith}
-use lib.ListN.{length, drop}
-use mathlib.Core.Path.{◌≡◌, refl}
-use Prim.Native.Nat.{◌-◌, ◌≤◌}
-use Rattle.text.specs.Reading.{field}
+use mathlib.Core.Path.{◌≡◌}
+use Prim.Native.Nat.{◌-◌}
 use Rattle.text.proofs.Fields.{field_next, field_past, field_end}
-use Rattle.std.proofs.Common.{rules}
 use Rattle.text.proofs.reading.field.Goals as goal
 
 pub returns-then-s-end : goal.returns-then-s-end

@@ -1,9 +1,5 @@
 -- `find` meets its contract. Assumes nothing.
-use native.Mathlib.Omega.{arith}
-use lib.ListN.{length}
-use Prim.Native.Nat.{◌-◌}
-use Rattle.text.proofs.Fields.{Passed, passed_none, passed_more, found, found_none}
-use Rattle.std.proofs.Common.{rules}
+use Rattle.text.proofs.Fields.{passed_more, found, found_none}
 use Rattle.text.proofs.reading.find.Goals as goal
 
 pub returns-then-s-at : goal.returns-then-s-at

@@ -1,8 +1,7 @@
 -- `find` meets its contract. Assumes nothing.
-use native.Mathlib.Omega.{arith}
 use lib.ListN.{length}
 use Prim.Native.Nat.{◌-◌}
-use Rattle.text.proofs.Fields.{Passed, passed_none, passed_more, found, found_none}
+use Rattle.text.proofs.Fields.{Passed}
 use Rattle.text.proofs.reading.find.Given as goal
 
 abbrev pub invariant-loop-at : goal.invariant-loop-at

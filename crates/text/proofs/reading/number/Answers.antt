@@ -1,11 +1,6 @@
 -- `number` meets its contract. Assumes nothing.
 use native.Mathlib.Omega.{arith}
-use lib.ListN.{length, drop}
-use mathlib.Core.Path.{◌≡◌, refl}
-use Prim.Native.Nat.{◌-◌, ◌≤◌}
-use Rattle.text.specs.Reading.{number, number_from}
 use Rattle.text.proofs.Fields.{number_at, number_low, number_high, number_past}
-use Rattle.std.proofs.Common.{rules}
 use Rattle.text.proofs.reading.number.Goals as goal
 
 pub returns-then-b-lt48 : goal.returns-then-b-lt48

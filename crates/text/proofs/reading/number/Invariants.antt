@@ -1,10 +1,8 @@
 -- `number` meets its contract. Assumes nothing.
-use native.Mathlib.Omega.{arith}
 use lib.ListN.{length, drop}
-use mathlib.Core.Path.{◌≡◌, refl}
+use mathlib.Core.Path.{◌≡◌}
 use Prim.Native.Nat.{◌-◌, ◌≤◌}
 use Rattle.text.specs.Reading.{number, number_from}
-use Rattle.text.proofs.Fields.{number_at, number_low, number_high, number_past}
 use Rattle.text.proofs.reading.number.Given as goal
 
 abbrev pub invariant-loop-i : goal.invariant-loop-i

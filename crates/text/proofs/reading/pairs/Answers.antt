@@ -1,12 +1,7 @@
 -- `pairs` meets its contract. Assumes nothing.
-use borrow.Author.Rules.{rules}
 use native.Mathlib.Omega.{arith}
-use lib.ListN.{length, drop}
-use Prim.Native.Nat.{◌-◌, ◌≤◌}
-use Rattle.text.specs.Reading.{pairs}
-use Rattle.text.proofs.Puts.{Leaves, leaves_all, leaves_less, leaves_length, leaves_none}
+use Rattle.text.proofs.Puts.{leaves_less, leaves_none}
 use Rattle.text.proofs.Fields.{pairs_at, pairs_past}
-
 use Rattle.text.proofs.reading.pairs.Goals as goal
 
 pub loop-i-preserved : goal.loop-i-preserved

@@ -1,11 +1,8 @@
 -- `times` meets its contract. Assumes nothing.
-use borrow.Author.Rules.{rules}
 use native.Mathlib.Omega.{arith}
 use Prim.Native.Nat.{◌-◌}
-use Rattle.text.specs.Reading.{times, pairs}
-use Rattle.text.proofs.Puts.{Leaves, leaves_all, leaves_less, leaves_length, leaves_none}
+use Rattle.text.proofs.Puts.{leaves_less, leaves_none}
 use Rattle.text.proofs.Fields.{times_at, times_past}
-
 use Rattle.text.proofs.reading.times.Goals as goal
 
 pub loop-left-preserved : goal.loop-left-preserved

@@ -1,7 +1,0 @@
--- `fresh` meets its contract. Assumes nothing.
-use borrow.Author.Rules.{rules}
-use Rattle.line.proofs.fresh.Statement.{statement}
-use Rattle.line.proofs.fresh.Tie as tie
-
-pub fresh-spec : {M : Type 1} → statement M
-fresh-spec = tie.close (tie.spec (λ c κs. search rules) (λ c. rw c.idle.ensures))
