@@ -1,0 +1,10 @@
+-- `aes::packed::times_x` meets its contract. Assumes nothing.
+use native.Mathlib.Omega.{arith}
+use lib.Bits.{and_le_r}
+use borrow.Author.Rules.{rules}
+use Rattle.aes.proofs.Elements.{elements_lt, top_digit, times_x_is}
+
+use Rattle.aes.proofs.packed.times_x.Goals as goal
+
+pub returns : goal.returns
+returns c = times_x_is c.args.w c.args.rest (search rules) (search rules)
