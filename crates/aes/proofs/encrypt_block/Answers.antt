@@ -1,12 +1,9 @@
 -- `aes::encrypt_block` meets its contract. Assumes nothing.
 use mathlib.Core.Path.{◌∙◌, ap}
 use mathlib.Core.List.{[]}
-use Prim.Native.Nat.{◌-◌}
 use lib.ListN.{get_or}
-use borrow.Author.Rules.{rules}
 use Rattle.aes.specs.Cipher.{shift_rows, add_round_key, of_state}
-use Rattle.aes.proofs.Loops.{AfterRounds, rounds_start, rounds_turn, rounds_end}
-
+use Rattle.aes.proofs.Loops.{rounds_start, rounds_turn, rounds_end}
 use Rattle.aes.proofs.encrypt_block.Goals as goal
 
 pub loop-i-preserved : goal.loop-i-preserved

@@ -1,11 +1,6 @@
 -- `aes::encrypt_block` meets its contract. Assumes nothing.
-use mathlib.Core.Path.{◌∙◌, ap}
-use mathlib.Core.List.{[]}
 use Prim.Native.Nat.{◌-◌}
-use lib.ListN.{get_or}
-use borrow.Author.Rules.{rules}
-use Rattle.aes.specs.Cipher.{shift_rows, add_round_key, of_state}
-use Rattle.aes.proofs.Loops.{AfterRounds, rounds_start, rounds_turn, rounds_end}
+use Rattle.aes.proofs.Loops.{AfterRounds}
 use Rattle.aes.proofs.encrypt_block.Given as goal
 
 abbrev pub invariant-loop-i : goal.invariant-loop-i

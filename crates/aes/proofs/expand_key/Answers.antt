@@ -1,10 +1,5 @@
 -- `aes::expand_key` meets its contract. Assumes nothing.
-use mathlib.Core.List.{[]}
-use Prim.Native.Nat.{◌-◌}
-use lib.ListN.{get_or}
-use borrow.Author.Rules.{rules}
-use Rattle.aes.proofs.Loops.{Expanded, expanded_start, expanded_turn, all_expanded}
-
+use Rattle.aes.proofs.Loops.{expanded_start, expanded_turn, all_expanded}
 use Rattle.aes.proofs.expand_key.Goals as goal
 
 pub loop-i-preserved : goal.loop-i-preserved

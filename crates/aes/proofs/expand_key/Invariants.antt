@@ -2,8 +2,7 @@
 use mathlib.Core.List.{[]}
 use Prim.Native.Nat.{◌-◌}
 use lib.ListN.{get_or}
-use borrow.Author.Rules.{rules}
-use Rattle.aes.proofs.Loops.{Expanded, expanded_start, expanded_turn, all_expanded}
+use Rattle.aes.proofs.Loops.{Expanded}
 use Rattle.aes.proofs.expand_key.Given as goal
 
 abbrev pub invariant-loop-i : goal.invariant-loop-i

@@ -4,9 +4,7 @@ use mathlib.Core.List.{List, [], ◌∷◌}
 use Prim.Native.Nat.{ℕ}
 use lib.Bits.{bit_xor}
 use lib.ListN.{get_or}
-use borrow.Author.Rules.{rules}
 use Rattle.aes.specs.Cipher.{next_key, chained}
-
 use Rattle.aes.proofs.next_key.Goals as goal
 
 pub returns : goal.returns

@@ -1,8 +1,6 @@
 -- `aes::round` meets its contract. Assumes nothing.
 use mathlib.Core.Path.{◌∙◌, ap}
-use borrow.Author.Rules.{rules}
 use Rattle.aes.specs.Cipher.{round, shift_rows, mix_columns, add_round_key}
-
 use Rattle.aes.proofs.round.Goals as goal
 
 pub returns : goal.returns

@@ -3,7 +3,6 @@ use borrow.Author.Rules.{rules}
 use Rattle.aes.specs.Box.{sub_byte}
 use Rattle.aes.proofs.Bytes.{sub_byte_lem}
 use Rattle.aes.proofs.Elements.{lowest}
-
 use Rattle.aes.proofs.sub_byte.Goals as goal
 
 pub returns : goal.returns

@@ -4,7 +4,6 @@ use borrow.Author.Rules.{rules}
 use Rattle.aes.specs.Box.{sub_byte}
 use Rattle.aes.proofs.Bytes.{sub_byte_lem}
 use Rattle.aes.proofs.Elements.{rows_applied}
-
 use Rattle.aes.proofs.sub_rows.Goals as goal
 
 pub returns : goal.returns

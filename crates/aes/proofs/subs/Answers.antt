@@ -3,7 +3,6 @@ use borrow.Author.Rules.{rules}
 use Rattle.aes.specs.Box.{inverse, affine, sub_byte}
 use Rattle.aes.proofs.Bytes.{inverse_byte, affine_byte}
 use Rattle.aes.proofs.Elements.{both_applied}
-
 use Rattle.aes.proofs.subs.Goals as goal
 
 pub returns : goal.returns

@@ -2,7 +2,6 @@
 use mathlib.Core.Path.{sym}
 use Rattle.aes.proofs.KeyStream.{counter_is}
 use borrow.Author.Rules.{rules}
-
 use Rattle.aes.proofs.ctr.counter_block.Goals as goal
 
 pub returns : goal.returns

@@ -1,13 +1,10 @@
 -- `aes::ctr::xor_block` meets its contract: the bytes passed are a run of stores. Assumes nothing.
-use mathlib.Core.Path.{◌≡◌, ◌∙◌, refl}
-use Prim.Native.Nat.{◌-◌, ◌≤◌}
+use mathlib.Core.Path.{◌≡◌, ◌∙◌}
 use native.Mathlib.Omega.{arith}
 use borrow.Author.Rules.{rules}
-use lib.ListN.{length, length-set, length-drop, take, drop}
-use lib.Seq.{sets}
+use lib.ListN.{length, length-set, length-drop, drop}
 use Rattle.aes.specs.Ctr.{xors}
 use Rattle.aes.proofs.KeyStream.{length_xors, xor_turn, sets_cut}
-
 use Rattle.aes.proofs.ctr.xor_block.Goals as goal
 
 pub loop-j-preserved : goal.loop-j-preserved

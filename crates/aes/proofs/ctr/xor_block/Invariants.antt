@@ -1,12 +1,9 @@
 -- `aes::ctr::xor_block` meets its contract: the bytes passed are a run of stores. Assumes nothing.
-use mathlib.Core.Path.{◌≡◌, ◌∙◌, refl}
+use mathlib.Core.Path.{◌≡◌}
 use Prim.Native.Nat.{◌-◌, ◌≤◌}
-use native.Mathlib.Omega.{arith}
-use borrow.Author.Rules.{rules}
-use lib.ListN.{length, length-set, length-drop, take, drop}
+use lib.ListN.{length, take, drop}
 use lib.Seq.{sets}
 use Rattle.aes.specs.Ctr.{xors}
-use Rattle.aes.proofs.KeyStream.{length_xors, xor_turn, sets_cut}
 use Rattle.aes.proofs.ctr.xor_block.Given as goal
 
 abbrev pub invariant-loop-j : goal.invariant-loop-j

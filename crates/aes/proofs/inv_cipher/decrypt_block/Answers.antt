@@ -1,5 +1,5 @@
 -- `aes::inv_cipher::decrypt_block` meets its contract. Invariant: the i rounds that are left give what all nine give. Assumes nothing.
-use mathlib.Core.Path.{◌≡◌, ◌∙◌, ap, sym, refl}
+use mathlib.Core.Path.{◌≡◌, ◌∙◌, ap, sym}
 use mathlib.Core.List.{List, []}
 use Prim.Native.Nat.{ℕ, ◌≤◌, ◌-◌}
 use lib.ListN.{get_or}
@@ -7,7 +7,6 @@ use borrow.Author.Rules.{rules}
 use Rattle.aes.specs.Cipher.{add_round_key, of_state}
 use Rattle.aes.specs.InvCipher.{inv_cipher_under, inv_round, inv_rounds, inv_sub_bytes, inv_shift_rows, inv_mix_columns}
 use Rattle.aes.proofs.Turns.{none_left, inv_rounds_step}
-
 use Rattle.aes.proofs.inv_cipher.decrypt_block.Goals as goal
 
 none : (keys s s₀ : List (List ℕ)) (i : ℕ) → i ≤ 0 → inv_rounds keys s i ≡ inv_rounds keys s₀ 9 → s ≡ inv_rounds keys s₀ 9

@@ -5,7 +5,6 @@ use Rattle.aes.specs.Box.{inv_affine}
 use Rattle.aes.specs.Packed.{packed, element}
 use Rattle.aes.proofs.Box.{inv_turns_are}
 use Rattle.aes.proofs.Elements.{element_byte, elements, by_element, repeated, xor_elements, times_x_applied}
-
 use Rattle.aes.proofs.inv_cipher.inv_affines.Goals as goal
 
 pub returns : goal.returns

@@ -1,9 +1,7 @@
 -- `aes::inv_cipher::inv_mix_columns` meets its contract. Assumes nothing.
 use mathlib.Core.Path.{◌∙◌, ap}
-use borrow.Author.Rules.{rules}
 use Rattle.aes.specs.Cipher.{mix_columns}
 use Rattle.aes.proofs.Columns.{mixed_thrice}
-
 use Rattle.aes.proofs.inv_cipher.inv_mix_columns.Goals as goal
 
 pub returns : goal.returns

@@ -3,7 +3,6 @@ use borrow.Author.Rules.{rules}
 use Rattle.aes.specs.Box.{inv_sub_byte}
 use Rattle.aes.proofs.Bytes.{inv_sub_byte_lem}
 use Rattle.aes.proofs.Elements.{lowest}
-
 use Rattle.aes.proofs.inv_cipher.inv_sub_byte.Goals as goal
 
 pub returns : goal.returns

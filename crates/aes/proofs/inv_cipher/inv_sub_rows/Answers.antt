@@ -4,7 +4,6 @@ use borrow.Author.Rules.{rules}
 use Rattle.aes.specs.Box.{inv_sub_byte}
 use Rattle.aes.proofs.Bytes.{inv_sub_byte_lem}
 use Rattle.aes.proofs.Elements.{rows_applied}
-
 use Rattle.aes.proofs.inv_cipher.inv_sub_rows.Goals as goal
 
 pub returns : goal.returns

@@ -7,7 +7,6 @@ use Rattle.aes.specs.Packed.{each}
 use Rattle.aes.proofs.Bytes.{inverse_byte}
 use Rattle.aes.proofs.Box.{inv_affine_byte}
 use Rattle.aes.proofs.Elements.{U64, both_applied}
-
 use Rattle.aes.proofs.inv_cipher.inv_subs.Goals as goal
 
 back : (w i v : ℕ) → U64 w → i ≡ each inv_affine w → v ≡ each inverse i → v ≡ each inv_sub_byte w

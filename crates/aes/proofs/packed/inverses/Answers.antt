@@ -1,6 +1,6 @@
 -- `aes::packed::inverses` meets its contract. Invariant: each element is what i turns of square and multiply give. Assumes nothing.
 use mathlib.Core.Path.{◌≡◌, ◌∙◌, sym, ap}
-use Prim.Native.Nat.{ℕ, ◌+◌, ◌-◌, ◌≤◌, ◌<◌}
+use Prim.Native.Nat.{ℕ, ◌+◌}
 use native.Mathlib.Nat.{le_antisymm}
 use native.Mathlib.Numerals.{add-one}
 use lib.Dec.{lit<}
@@ -10,8 +10,7 @@ use Rattle.aes.specs.Box.{inverse}
 use Rattle.aes.specs.Packed.{packed, element, each}
 use Rattle.aes.proofs.Bytes.{mul_byte}
 use Rattle.aes.proofs.Box.{square_multiply, square_multiply_is}
-use Rattle.aes.proofs.Elements.{Bytewise, U64, Elements, element_byte, elements_lt, elements, element_at, by_element, applied, repeated}
-
+use Rattle.aes.proofs.Elements.{Bytewise, Elements, element_byte, elements_lt, elements, element_at, by_element, applied, repeated}
 use Rattle.aes.proofs.packed.inverses.Goals as goal
 
 more : (i a : ℕ) → square_multiply (i + 1) a ≡ (square_multiply i a • a) • (square_multiply i a • a)

@@ -1,8 +1,6 @@
 -- `aes::packed::pack` meets its contract. Assumes nothing.
 use native.Mathlib.Omega.{arith}
-use borrow.Author.Rules.{rules}
 use Rattle.aes.specs.Packed.{packed}
-
 use Rattle.aes.proofs.packed.pack.Goals as goal
 
 pub returns : goal.returns

@@ -2,7 +2,7 @@
 use mathlib.Core.Path.{◌≡◌, ◌∙◌, refl, sym, ap}
 use Prim.Native.Nat.{ℕ, zero, suc, ◌-◌, ◌*◌, ◌/◌, ◌%◌, ◌<◌}
 use native.Mathlib.Omega.{arith}
-use lib.Bits.{bit_and, and_le_r, xor_zero_r}
+use lib.Bits.{bit_and, xor_zero_r}
 use lib.Dec.{lit<}
 use borrow.Author.Rules.{rules}
 use Rattle.aes.specs.Field.{◌⊕◌, xtime, times, ◌•◌}
@@ -10,7 +10,6 @@ use Rattle.aes.specs.Packed.{packed, element}
 use Rattle.aes.proofs.Bytes.{xtime_byte}
 use Rattle.aes.proofs.Elements.{U64, Elements, element_byte, elements, element_at, elements_lt, by_element, applied, xor_elements, and_elements, times_elements, low_digits, from_digit}
 use Rattle.aes.proofs.Turns.{none_left, digit_fits, times_step}
-
 use Rattle.aes.proofs.packed.products.Goals as goal
 
 none : (i : ℕ) → element 0 i ≡ 0

@@ -1,14 +1,12 @@
 -- `aes::packed::squares` meets its contract. Assumes nothing.
 use Prim.Native.Nat.{ℕ, ◌%◌, ◌<◌}
 use native.Mathlib.Omega.{arith}
-use lib.Bits.{and_le_r}
 use lib.Dec.{lit<}
 use borrow.Author.Rules.{rules}
 use Rattle.aes.specs.Field.{◌•◌}
 use Rattle.aes.specs.Packed.{packed, element}
 use Rattle.aes.proofs.Box.{square_is}
 use Rattle.aes.proofs.Elements.{U64, element_byte, by_element, xor_elements, low_digits, digit}
-
 use Rattle.aes.proofs.packed.squares.Goals as goal
 
 low_byte : (b : ℕ) → b % 2 < 256

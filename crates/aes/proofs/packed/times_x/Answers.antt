@@ -1,9 +1,6 @@
 -- `aes::packed::times_x` meets its contract. Assumes nothing.
-use native.Mathlib.Omega.{arith}
-use lib.Bits.{and_le_r}
 use borrow.Author.Rules.{rules}
-use Rattle.aes.proofs.Elements.{elements_lt, top_digit, times_x_is}
-
+use Rattle.aes.proofs.Elements.{times_x_is}
 use Rattle.aes.proofs.packed.times_x.Goals as goal
 
 pub returns : goal.returns

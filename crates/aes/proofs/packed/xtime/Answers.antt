@@ -3,7 +3,6 @@ use borrow.Author.Rules.{rules}
 use Rattle.aes.specs.Field.{xtime}
 use Rattle.aes.proofs.Bytes.{xtime_byte}
 use Rattle.aes.proofs.Elements.{lowest}
-
 use Rattle.aes.proofs.packed.xtime.Goals as goal
 
 pub returns : goal.returns

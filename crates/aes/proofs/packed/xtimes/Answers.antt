@@ -1,8 +1,6 @@
 -- `aes::packed::xtimes` meets its contract. Assumes nothing.
-use borrow.Author.Rules.{rules}
 use Rattle.aes.specs.Field.{xtime}
 use Rattle.aes.specs.Packed.{times_x}
-
 use Rattle.aes.proofs.packed.xtimes.Goals as goal
 
 pub returns : goal.returns

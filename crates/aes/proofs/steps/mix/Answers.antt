@@ -7,7 +7,6 @@ use Rattle.aes.specs.Packed.{element}
 use Rattle.aes.proofs.Bytes.{xtime_byte}
 use Rattle.aes.proofs.Linear.{mixed_is}
 use Rattle.aes.proofs.Elements.{elements, by_element, applied, xor_elements}
-
 use Rattle.aes.proofs.steps.mix.Goals as goal
 
 pub returns : goal.returns

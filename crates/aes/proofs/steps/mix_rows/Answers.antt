@@ -6,7 +6,6 @@ use Rattle.aes.specs.Cipher.{mixed}
 use Rattle.aes.specs.Packed.{packed, element}
 use Rattle.aes.proofs.Bytes.{mixed_byte}
 use Rattle.aes.proofs.Elements.{Elements, element_at, same_elements, of_rows, both_rows}
-
 use Rattle.aes.proofs.steps.mix_rows.Goals as goal
 
 mixed-elements : {p q r s v : ℕ} {f g h k : ℕ → ℕ} → Elements p f → Elements q g → Elements r h → Elements s k
