@@ -1,8 +1,6 @@
 -- `session::memory_after` meets its contract. Assumes nothing.
 use mathlib.Core.Path.{sym, ◌∙◌}
 use Rattle.session.specs.Session.{memory_after}
-use borrow.Author.Rules.{rules}
-
 use Rattle.session.proofs.memory_after.Goals as goal
 
 pub returns-then-same_bytes : goal.returns-then-same_bytes

@@ -1,7 +1,5 @@
 -- `session::Connection::is_there` meets its contract. Assumes nothing.
 use Rattle.session.specs.Session.{connection_there}
-use borrow.Author.Rules.{rules}
-
 use Rattle.session.proofs.Connection.is_there.Goals as goal
 
 pub returns-then-self : goal.returns-then-self

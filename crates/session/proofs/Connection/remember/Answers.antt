@@ -1,8 +1,6 @@
 -- `session::Connection::remember` meets its contract. Assumes nothing.
 use mathlib.Core.Path.{sym, ◌∙◌}
 use Rattle.session.specs.Session.{connection_remembering}
-use borrow.Author.Rules.{rules}
-
 use Rattle.session.proofs.Connection.remember.Goals as goal
 
 pub returns-then-is_there : goal.returns-then-is_there

@@ -1,15 +1,14 @@
 -- `session::NonceMemory::holds` meets its contract. The invariant: what is left to compare decides. Assumes nothing.
-use mathlib.Core.Path.{◌≡◌, refl, sym, ap, ◌∙◌}
-use Prim.Native.Nat.{ℕ, ◌-◌, ◌≤◌}
+use mathlib.Core.Path.{◌≡◌, sym, ap, ◌∙◌}
+use Prim.Native.Nat.{ℕ, ◌≤◌}
 use native.Mathlib.Omega.{arith}
-use lib.ListN.{length, take, drop}
-use borrow.Author.Tests.{eq-eqb, ne_eqb}
+use lib.ListN.{length, take}
+use borrow.Author.Tests.{eq-eqb}
 use Rattle.wire.specs.Rules.{among}
 use Rattle.session.specs.Memory.{limited, remembered}
 use Rattle.session.specs.declared.NonceMemory.{NonceMemory}
 use Rattle.session.proofs.Remembered.{limit_count, among_step, among_end}
 use borrow.Author.Rules.{rules}
-
 use Rattle.session.proofs.NonceMemory.holds.Goals as goal
 
 module _ (self : NonceMemory) {m : NonceMemory} (e : m ≡ limited self) where

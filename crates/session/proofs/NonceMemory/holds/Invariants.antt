@@ -1,14 +1,8 @@
 -- `session::NonceMemory::holds` meets its contract. The invariant: what is left to compare decides. Assumes nothing.
-use mathlib.Core.Path.{◌≡◌, refl, sym, ap, ◌∙◌}
-use Prim.Native.Nat.{ℕ, ◌-◌, ◌≤◌}
-use native.Mathlib.Omega.{arith}
-use lib.ListN.{length, take, drop}
-use borrow.Author.Tests.{eq-eqb, ne_eqb}
+use mathlib.Core.Path.{◌≡◌}
+use Prim.Native.Nat.{◌-◌}
+use lib.ListN.{take, drop}
 use Rattle.wire.specs.Rules.{among}
-use Rattle.session.specs.Memory.{limited, remembered}
-use Rattle.session.specs.declared.NonceMemory.{NonceMemory}
-use Rattle.session.proofs.Remembered.{limit_count, among_step, among_end}
-use borrow.Author.Rules.{rules}
 use Rattle.session.proofs.NonceMemory.holds.Given as goal
 
 abbrev pub invariant-loop-i : goal.invariant-loop-i

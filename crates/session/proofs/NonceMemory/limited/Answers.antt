@@ -1,8 +1,6 @@
 -- `session::NonceMemory::limited` meets its contract. Assumes nothing.
 use mathlib.Core.Path.{sym, ◌∙◌}
 use Rattle.session.specs.Memory.{limited}
-use borrow.Author.Rules.{rules}
-
 use Rattle.session.proofs.NonceMemory.limited.Goals as goal
 
 pub returns-then-fits : goal.returns-then-fits

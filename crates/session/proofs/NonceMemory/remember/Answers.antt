@@ -7,7 +7,6 @@ use Rattle.session.specs.Memory.{in_front, remembering}
 use Rattle.session.specs.declared.NonceMemory.{NonceMemory}
 use Rattle.session.proofs.Remembered.{eight_places}
 use borrow.Author.Rules.{rules}
-
 use Rattle.session.proofs.NonceMemory.remember.Goals as goal
 
 pub returns : goal.returns

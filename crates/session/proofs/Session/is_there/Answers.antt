@@ -1,7 +1,5 @@
 -- `session::Session::is_there` meets its contract. Assumes nothing.
 use Rattle.session.specs.Session.{session_there}
-use borrow.Author.Rules.{rules}
-
 use Rattle.session.proofs.Session.is_there.Goals as goal
 
 pub returns-then-self : goal.returns-then-self

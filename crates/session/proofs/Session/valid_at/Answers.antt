@@ -1,8 +1,6 @@
 -- `session::Session::valid_at` meets its contract. Assumes nothing.
 use mathlib.Core.Path.{◌∙◌}
-use borrow.Author.Rules.{rules}
 use Rattle.session.proofs.Validity.{behind, run_out, not_run_out}
-
 use Rattle.session.proofs.Session.valid_at.Goals as goal
 
 pub returns-then-now-since : goal.returns-then-now-since
