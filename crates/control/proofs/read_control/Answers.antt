@@ -1,14 +1,8 @@
 -- `read_control` meets its contract. Assumes nothing.
-use Prim.Native.Nat.{◌+◌}
 use mathlib.Core.Path.{◌∙◌, sym}
-use native.Mathlib.Omega.{arith}
-use lib.ListN.{length}
-use Rattle.wire.specs.Numbers.{num}
 use Rattle.control.proofs.Reading.{control_read}
 use Rattle.control.proofs.Meaning.{reads_control}
-use borrow.Author.Tests.{eq-eqb, ne_eqb}
-use borrow.Author.Rules.{rules}
-
+use borrow.Author.Tests.{eq-eqb}
 use Rattle.control.proofs.read_control.Goals as goal
 
 pub returns : goal.returns

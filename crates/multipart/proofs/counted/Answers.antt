@@ -4,9 +4,7 @@ use Prim.Native.Nat.{◌+◌}
 use native.Mathlib.Omega.{arith}
 use lib.ListN.{length}
 use borrow.Author.Tests.{lt-ltb, le-ltb}
-use borrow.Author.Rules.{rules}
 use Rattle.multipart.specs.Assembler.{counted}
-
 use Rattle.multipart.proofs.counted.Goals as goal
 
 pub returns-then-not-in_turn : goal.returns-then-not-in_turn

@@ -1,8 +1,6 @@
 -- `kept` meets its contract. Assumes nothing.
 use borrow.Author.Tests.{eq-eqb, ne_eqb}
-use borrow.Author.Rules.{rules}
 use Rattle.multipart.specs.Assembler.{kept}
-
 use Rattle.multipart.proofs.kept.Goals as goal
 
 pub returns-then-counter-eq255 : goal.returns-then-counter-eq255

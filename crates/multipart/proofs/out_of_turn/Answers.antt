@@ -1,10 +1,7 @@
 -- `out_of_turn` meets its contract. Assumes nothing.
 use mathlib.Core.Path.{sym, ◌∙◌}
 use borrow.Author.Tests.{eq-eqb, ne_eqb}
-use borrow.Author.Rules.{rules}
 use Rattle.multipart.specs.Assembler.{out_of_turn}
-use Rattle.multipart.proofs.OnePart.{first_fits}
-
 use Rattle.multipart.proofs.out_of_turn.Goals as goal
 
 pub returns-then-counter-eq255 : goal.returns-then-counter-eq255

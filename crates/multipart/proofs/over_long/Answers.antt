@@ -1,8 +1,6 @@
 -- `over_long` meets its contract. Assumes nothing.
 use borrow.Author.Tests.{eq-eqb, ne_eqb}
-use borrow.Author.Rules.{rules}
 use Rattle.multipart.specs.Assembler.{over_long}
-
 use Rattle.multipart.proofs.over_long.Goals as goal
 
 pub returns-then-counter-ne255 : goal.returns-then-counter-ne255

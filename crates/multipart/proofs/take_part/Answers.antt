@@ -1,9 +1,7 @@
 -- `take_part` meets its contract. Assumes nothing.
 use borrow.Author.Tests.{eq-eqb}
-use borrow.Author.Rules.{rules}
 use Rattle.multipart.specs.Assembler.{step_of}
 use Rattle.multipart.proofs.OnePart.{takes_part, takes_counted}
-
 use Rattle.multipart.proofs.take_part.Goals as goal
 
 pub returns-then-part-eq0 : goal.returns-then-part-eq0

@@ -1,13 +1,7 @@
 -- `read_result` meets its contract. Assumes nothing.
-use Prim.Native.Nat.{◌+◌}
-use native.Mathlib.Omega.{arith}
-use lib.ListN.{length}
-use borrow.Author.Tests.{eq-eqb, ne_eqb}
-use Rattle.wire.specs.Numbers.{num}
+use borrow.Author.Tests.{eq-eqb}
 use Rattle.wire.proofs.Fields.{to_end}
 use Rattle.result.proofs.Meaning.{reads_result}
-use borrow.Author.Rules.{rules}
-
 use Rattle.result.proofs.read_result.Goals as goal
 
 pub returns : goal.returns

@@ -1,8 +1,6 @@
 -- `Progress::in_turn` meets its contract. Assumes nothing.
 use borrow.Author.Tests.{eq-eqb, ne_eqb}
-use borrow.Author.Rules.{rules}
 use Rattle.multipart.specs.Assembler.{in_turn}
-
 use Rattle.multipart.proofs.Progress.in_turn.Goals as goal
 
 pub returns-then-self : goal.returns-then-self

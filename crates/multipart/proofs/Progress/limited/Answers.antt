@@ -1,8 +1,6 @@
 -- `Progress::limited` meets its contract. Assumes nothing.
 use mathlib.Core.Path.{sym, ◌∙◌}
-use borrow.Author.Rules.{rules}
 use Rattle.multipart.proofs.OnePart.{limited_outside, limited_within}
-
 use Rattle.multipart.proofs.Progress.limited.Goals as goal
 
 pub returns-then-outside : goal.returns-then-outside

@@ -1,7 +1,6 @@
 -- `Progress::outside` meets its contract. Assumes nothing.
 use borrow.Author.Tests.{lt-ltb, le-ltb, eq-eqb, ne_eqb}
 use Rattle.multipart.specs.Assembler.{outside}
-use Rattle.std.proofs.Common.{rules}
 use Rattle.multipart.proofs.Progress.outside.Goals as goal
 
 pub returns-then-self-gt255 : goal.returns-then-self-gt255

@@ -1,7 +1,5 @@
 -- `cut` meets its contract. Assumes nothing.
-use Rattle.multipart.proofs.Putting.{cut_long, cut_no_size, cut_many, cut_short, cut_made}
-use borrow.Author.Rules.{rules}
-
+use Rattle.multipart.proofs.Putting.{cut_many, cut_short, cut_made}
 use Rattle.multipart.proofs.cutter.cut.Goals as goal
 
 pub returns-then-full-gt255 : goal.returns-then-full-gt255

@@ -1,14 +1,6 @@
 -- `put_parts` meets its contract. The parts that remain, put where the loop stands, make the image. Assumes nothing.
-use mathlib.Core.Path.{◌≡◌, refl}
-use mathlib.Core.List.{flatten}
-use Prim.Native.Nat.{◌+◌, ◌-◌, ◌*◌, ◌≤◌}
 use native.Mathlib.Omega.{arith}
-use lib.ListN.{length, drop, length-take, length-drop}
-use lib.Seq.{sets}
-use Rattle.multipart.specs.Cutting.{parts, cut_after}
-use Rattle.multipart.proofs.Cutting.{remaining}
 use Rattle.multipart.proofs.Putting.{bytes_less, part_put, last_put}
-use Rattle.std.proofs.Common.{rules}
 use Rattle.multipart.proofs.cutter.put_parts.Goals as goal
 
 pub loop-k-preserved : goal.loop-k-preserved
