@@ -5,6 +5,7 @@ ghost use Rattle.bridge.specs.Reply as table;
 use crate::{Refusal, Reply};
 
 // The reply that a refusal gets on the UART.
+#[tactic(auto, unfolding(crate::specs::Reply::entry_of))]
 fn reply_of(number: u8) -> Reply
     ensures { (table.reply_entry result ≡ table.entry_of number) × (result ≡ table.reply_for (table.entry_of number)) }
 {

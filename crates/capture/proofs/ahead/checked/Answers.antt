@@ -1,0 +1,37 @@
+-- `checked` meets its contract. Assumes nothing.
+use mathlib.Core.Path.{refl, ap, ◌∙◌}
+use Prim.Native.Nat.{◌-◌}
+use borrow.Author.Rules.{rules}
+use Rattle.crc.specs.Crc.{crc_of}
+use Rattle.line.specs.Line.{emitted}
+use Rattle.capture.specs.Looking.{refusal_at}
+use Rattle.capture.specs.declared.ahead.NextEvent.{NextEvent}
+use Rattle.capture.proofs.Frames.{crc_differs, crc_same}
+use Rattle.capture.proofs.ahead.checked.Goals as goal
+
+pub returns-then-crc-read_u16 : goal.returns-then-crc-read_u16
+returns-then-crc-read_u16 c =
+    let b = c in
+    let d = b in
+    let a = d.args in
+    let s = a.store.now in
+    let e : NextEvent = refusal_at 4 a.offset a.behind a.behind in
+    let q = c.refused.ensures in (
+      ap (λ (x : NextEvent). emitted x.event s) q
+          ∙ crc_differs a.size (a.behind - a.offset) s d.requires.0 d.requires.1 (search rules) b.crc.result c.read_u16.result
+          (b.crc.ensures ∙ ap crc_of b.part_of-covered.ensures) c.read_u16.ensures.0 c.if-crc-read_u16.true,
+      ap (λ (x : NextEvent). x.offset) q,
+      ap (λ (x : NextEvent). x.next) q,
+    )
+
+pub returns : goal.returns
+returns c =
+    let f = c in
+    let b = f in
+    let d = b in
+    let a = d.args in (
+      crc_same a.size (a.behind - a.offset) a.store.now d.requires.0 d.requires.1 (search rules) b.crc.result f.read_u16.result
+          (b.crc.ensures ∙ ap crc_of b.part_of-covered.ensures) f.read_u16.ensures.0 f.if-crc-read_u16.false,
+      refl,
+      refl,
+    )

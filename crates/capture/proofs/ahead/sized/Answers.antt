@@ -1,0 +1,50 @@
+-- `sized` meets its contract. Assumes nothing.
+use native.Mathlib.Omega.{arith}
+use lib.Dec.{leb}
+use borrow.Author.Tests.{lt-leb}
+use Rattle.wire.proofs.Choice.{and_false}
+use Rattle.capture.proofs.Reaching.{takes_holds}
+use Rattle.capture.proofs.NextEvents.{next_size, next_cut, next_checked}
+use Rattle.capture.proofs.ahead.sized.Goals as goal
+
+pub returns-then-size-lt5 : goal.returns-then-size-lt5
+returns-then-size-lt5 c =
+    let d = c in
+    let a = d.args in
+    next_size a.s.now a.offset a.at a.size c.refused.result a.store.now d.requires.0 d.requires.1 (simp (lt-leb _ _ c.if-size-lt5.true)) c.refused.ensures
+
+pub returns-then-size-gt512 : goal.returns-then-size-gt512
+returns-then-size-gt512 c =
+    let d = c in
+    let a = d.args in
+    next_size a.s.now a.offset a.at a.size c.refused-then-size-gt512.result a.store.now d.requires.0 d.requires.1
+    (simp (lt-leb _ _ c.if-size-gt512.true) (and_false (leb 5 a.size))) c.refused-then-size-gt512.ensures
+
+pub broken-requires : goal.broken-requires
+broken-requires c =
+    let b = c in
+    let t = b.unescape-t.ensures in
+    let h = takes_holds b.requires.1 t in
+    (omega (arith, h.forward), h.within, t.stuck c.if-t-size.true)
+
+pub returns-then-t-size : goal.returns-then-t-size
+returns-then-t-size c =
+    let b = c in
+    let d = b in
+    let a = d.args in
+    next_cut a.s.now a.offset a.at a.size c.broken.result _ d.requires.0 d.requires.1 (omega arith) (omega arith) b.unescape-t.ensures
+    c.if-t-size.true c.broken.ensures
+
+pub checked-requires : goal.checked-requires
+checked-requires c =
+    let b = c in
+    let h = takes_holds b.requires.1 b.unescape-t.ensures in
+    (omega arith, omega arith, omega (arith, h.forward))
+
+pub returns : goal.returns
+returns c =
+    let b = c in
+    let d = b in
+    let a = d.args in
+    next_checked a.s.now a.offset a.at a.size c.checked.result _ d.requires.0 d.requires.1 (omega arith) (omega arith) b.unescape-t.ensures
+    c.if-t-size.false c.checked.ensures
