@@ -3,7 +3,6 @@ use Rattle.text.specs.Reading.{count}
 use lib.ListN.{length}
 use mathlib.Core.Path.{◌≡◌}
 use Prim.Native.Nat.{◌-◌}
-use borrow.Author.Rules.{rules}
 use Rattle.fips197_vectors.proofs.main.Given as goal
 
 abbrev pub invariant-loop-k : goal.invariant-loop-k
