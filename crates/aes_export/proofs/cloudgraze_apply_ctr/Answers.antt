@@ -6,7 +6,6 @@ use native.Mathlib.Omega.{arith}
 use lib.ListN.{length, drop_of_length-le}
 use borrow.Author.Rules.{rules}
 use Rattle.aes.proofs.KeyStream.{ctr_stored}
-
 use Rattle.aes_export.proofs.cloudgraze_apply_ctr.Goals as goal
 
 pub returns : goal.returns

@@ -1,7 +1,6 @@
 -- `refusal_cases::cases` is safe, and ends: the place of the next line rises. Assumes nothing.
 use Prim.Native.Nat.{◌≤◌, ◌-◌}
 use lib.ListN.{length}
-use borrow.Author.Rules.{rules}
 use Rattle.refusal_cases.proofs.cases.Given as goal
 
 abbrev pub invariant-loop-at : goal.invariant-loop-at

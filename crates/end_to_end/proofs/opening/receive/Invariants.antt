@@ -1,7 +1,6 @@
 -- `receive` is safe, and ends. Assumes nothing.
 use Prim.Native.Nat.{◌≤◌, ◌-◌}
 use lib.ListN.{length}
-use borrow.Author.Rules.{rules}
 use Rattle.end_to_end.proofs.opening.receive.Given as goal
 
 abbrev pub invariant-loop-i : goal.invariant-loop-i

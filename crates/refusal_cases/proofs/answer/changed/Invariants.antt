@@ -1,7 +1,6 @@
 -- `refusal_cases::answer::changed` gives a count within the slice, and ends. Assumes nothing.
 use Prim.Native.Nat.{◌≤◌}
 use lib.ListN.{length}
-use borrow.Author.Rules.{rules}
 use Rattle.refusal_cases.proofs.answer.changed.Given as goal
 
 abbrev pub invariant-loop-n : goal.invariant-loop-n
