@@ -6,17 +6,13 @@ use native.Mathlib.Omega.{arith}
 use lib.ListN.{length, drop_of_length-le}
 use borrow.Author.Rules.{rules}
 use Rattle.aes.proofs.KeyStream.{ctr_stored}
-use Rattle.aes_export.proofs.cloudgraze_apply_ctr.Statement.{statement}
-use Rattle.aes_export.proofs.cloudgraze_apply_ctr.Tie as tie
+use Rattle.aes_export.proofs.cloudgraze_apply_ctr.Goals as goal
 
-returns : tie.Need-returns
+pub returns : goal.returns
 returns c =
-    let a = c.before.before.before.before.before.before.args in
+    let a = c.args in
     let s : length a.src.now ≡ 496 = search rules in
     let o : length a.out.now ≡ 496 = search rules in
     let h : length a.out.now ≤ length a.src.now = omega arith in
-    (ctr_stored a.key.now a.packet-nonce.now a.session-nonce.now a.src.now a.out.now (omega arith) c.apply-ctr.ensures).1
+    (ctr_stored a.key.now a.packet_nonce.now a.session_nonce.now a.src.now a.out.now (omega arith) c.apply_ctr.ensures).1
     ∙ rw (drop_of_length-le a.out.now h) (append-nil _)
-
-pub cloudgraze-apply-ctr-spec : {M : Type 1} → statement M
-cloudgraze-apply-ctr-spec = tie.close (tie.spec (λ c κs. search rules) returns)

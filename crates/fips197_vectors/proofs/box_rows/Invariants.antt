@@ -1,0 +1,11 @@
+-- `box_rows` is safe, and ends. Assumes nothing.
+use mathlib.Core.Path.{◌≡◌}
+use Prim.Native.Nat.{◌-◌}
+use lib.ListN.{length}
+use Rattle.fips197_vectors.proofs.box_rows.Given as goal
+
+abbrev pub invariant-loop-r : goal.invariant-loop-r
+invariant-loop-r l = length l.rows ≡ 16
+
+abbrev pub decreases-loop-r : goal.decreases-loop-r
+decreases-loop-r l = 16 - l.r

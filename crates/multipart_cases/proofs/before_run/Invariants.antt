@@ -1,0 +1,10 @@
+-- `multipart_cases::before_run` answers a place within the slice. Assumes nothing.
+use Prim.Native.Nat.{◌<◌}
+use lib.ListN.{length}
+use Rattle.multipart_cases.proofs.before_run.Given as goal
+
+abbrev pub invariant-loop-n : goal.invariant-loop-n
+invariant-loop-n l = l.n < length l.s
+
+abbrev pub decreases-loop-n : goal.decreases-loop-n
+decreases-loop-n l = l.n
