@@ -8,8 +8,6 @@ use Rattle.session.specs.Keys.{key_for_number}
 use Rattle.session.specs.declared.Key.{Key}
 use Rattle.bridge.specs.Characteristic.{level_key, connection_rules}
 use Rattle.bridge.specs.declared.Link.{Link}
-use borrow.Author.Rules.{rules}
-
 use Rattle.opening_characteristic.proofs.connection_refusal.Goals as goal
 
 key-held : (k : Link) (p : List ℕ) {key : Key} {level : ℕ} {held : Bool} → key ≡ key_for_number k.keys k.mode level → level ≡ get_or p 3 0 → key.held ≡ held

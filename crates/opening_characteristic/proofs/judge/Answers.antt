@@ -2,8 +2,6 @@
 use Rattle.bridge.specs.Opener.{block_rules}
 use Rattle.bridge.specs.Characteristic.{connection_rules, packet_entry_rules}
 use Rattle.bridge.proofs.Judging.{first_stop, first_pass}
-use borrow.Author.Rules.{rules}
-
 use Rattle.opening_characteristic.proofs.judge.Goals as goal
 
 pub returns-then-early-ne0 : goal.returns-then-early-ne0

@@ -15,8 +15,6 @@ use Rattle.bridge.specs.Characteristic.{access_for, packet_text_rules, accepted_
 use Rattle.bridge.specs.Opening.{refused_command, command_answer_by, command_text_answer, text_connection, opened_command_as}
 use Rattle.bridge.proofs.Judging.{judge_stop}
 use Rattle.bridge.proofs.Commands.{answer_read, packet_long}
-use borrow.Author.Rules.{rules}
-
 use Rattle.opening_characteristic.proofs.read_text.Goals as goal
 
 pub returns-then-late-ne0 : goal.returns-then-late-ne0

@@ -1,8 +1,6 @@
 -- `opening_uart::entry_refusal` meets its contract. Assumes nothing.
 use Rattle.bridge.specs.Opener.{block_rules, session_rules, uart_entry_rules}
 use Rattle.bridge.proofs.Judging.{first_stop, first_pass}
-use borrow.Author.Rules.{rules}
-
 use Rattle.opening_uart.proofs.entry_refusal.Goals as goal
 
 pub returns-then-early-ne0 : goal.returns-then-early-ne0

@@ -1,8 +1,6 @@
 -- `opening_uart::judge` meets its contract. Assumes nothing.
 use borrow.Author.Tests.{ne_eqb}
 use Rattle.bridge.specs.Opening.{frame_entry_rules}
-use borrow.Author.Rules.{rules}
-
 use Rattle.opening_uart.proofs.judge.Goals as goal
 
 pub returns-then-major-ne1 : goal.returns-then-major-ne1

@@ -8,8 +8,6 @@ use Rattle.message.specs.declared.Form.TheVariants.{Plain}
 use Rattle.bridge.specs.Opener.{plain_rules}
 use Rattle.bridge.specs.Opening.{session_by_answer, plain_answer, plain_session, opened_as, answer_by}
 use Rattle.bridge.proofs.Opening.{answer_read, plain_passes, plain_session_lem}
-use borrow.Author.Rules.{rules}
-
 use Rattle.opening_uart.proofs.open_plain.Goals as goal
 
 pub returns-then-payload-lt2 : goal.returns-then-payload-lt2

@@ -3,21 +3,17 @@ use mathlib.Core.Path.{◌≡◌, sym, ap, ap₂, ◌∙◌}
 use mathlib.Core.Bool.{true}
 use mathlib.Core.List.{List}
 use Prim.Native.Nat.{ℕ, ◌+◌}
-use native.Mathlib.Omega.{arith}
 use lib.ListN.{length}
 use Rattle.wire.specs.Rules.{first_broken, judge}
 use Rattle.wire.proofs.Rules.{judge_append, judge_pass}
 use Rattle.session.specs.Session.{session_remembering}
 use Rattle.envelope.specs.Sealed.{late_rules, message_in}
-use Rattle.envelope.proofs.Unsealed.{holds}
 use Rattle.message.specs.Reading.{message_rules, read_message}
 use Rattle.message.specs.declared.Form.TheVariants.{Encrypted}
 use Rattle.bridge.specs.Opener.{accepted_message, uart_text_rules}
 use Rattle.bridge.specs.Opening.{refused_answer, answer_by, text_answer, text_session, opened_as}
 use Rattle.bridge.proofs.Judging.{judge_stop}
 use Rattle.bridge.proofs.Opening.{answer_read}
-use borrow.Author.Rules.{rules}
-
 use Rattle.opening_uart.proofs.read_text.Goals as goal
 
 pub returns-then-late-ne0 : goal.returns-then-late-ne0

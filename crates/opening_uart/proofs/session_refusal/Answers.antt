@@ -3,8 +3,6 @@ use mathlib.Core.Path.{sym, ap, ◌∙◌}
 use borrow.Author.Tests.{ne_eqb}
 use Rattle.session.specs.declared.Key.{Key}
 use Rattle.bridge.specs.Opener.{session_rules}
-use borrow.Author.Rules.{rules}
-
 use Rattle.opening_uart.proofs.session_refusal.Goals as goal
 
 pub returns-then-byte_at-ne0 : goal.returns-then-byte_at-ne0
