@@ -8,7 +8,7 @@ use lib.ListN.{length, get_or}
 use borrow.Author.Tests.{le-ltb}
 use Rattle.wire.specs.Numbers.{num}
 use Rattle.wire.specs.Rules.{first_broken, verdict}
-use Rattle.wire.specs.Content.{accepted}
+use Rattle.wire.specs.Content.{accepted, refused}
 use Rattle.wire.proofs.Rules.{first_right, none_append, judge_pass}
 use Rattle.wire.proofs.Writers.{wrote}
 use Rattle.access.specs.Level.{level_of, level_number}
@@ -27,6 +27,7 @@ use Rattle.bridge.specs.Place.{place_from}
 use Rattle.bridge.specs.Characteristic.{level_key, connection_rules, packet_entry_rules, packet_text, packet_text_rules, packet_open_rules, accepted_command, characteristic_answer_of, characteristic_opened}
 use Rattle.bridge_laws.specs.RoundTrip.{SealablePacket, packet_sealed, OpensAgain}
 use Rattle.bridge.specs.Opening.{refused_command}
+use Rattle.bridge.specs.Content.{characteristic_given}
 use Rattle.bridge.proofs.Contents.{opens_packet}
 use Rattle.bridge.specs.declared.Link.{Link}
 use Rattle.bridge.specs.declared.CommandAnswer.TheVariants.{Accepted as CommandAccepted}
@@ -103,6 +104,6 @@ module _ (k : Link) (level : Level) (pn packet : List ℕ) (s : SealablePacket k
             ∙ ap (λ (l : List ℕ). CommandAccepted (command_at l) (place_from true 9 (4 + length l))) packet_is;
         content = λ work h.
             (opens_packet k p work refl refl).content
-            ∙ judge_pass _ (packet_open_rules k (length work) p) (accepted (control_content (packet_in (packet_text k p)))) (unbroken (length work) h)
+            ∙ judge_pass (λ n. refused (characteristic_given n)) (packet_open_rules k (length work) p) (accepted (control_content (packet_in (packet_text k p)))) (unbroken (length work) h)
             ∙ ap (λ (l : List ℕ). accepted (control_content l)) packet_is;
       }
