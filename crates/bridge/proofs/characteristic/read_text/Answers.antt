@@ -34,7 +34,8 @@ returns-then-late-ne0 c =
 pub answer_by-answer-requires : goal.answer_by-answer-requires
 answer_by-answer-requires c =
     let a = c.args in
-    let l = packet_long a.link.connection.validation a.text.now (sym c.judge_characteristic-late.ensures ∙ c.if-late-ne0.false) in
+    let none : c.judge_characteristic-late.result ≡ 0 = omega arith in
+    let l = packet_long a.link.connection.validation a.text.now (sym c.judge_characteristic-late.ensures ∙ none) in
     omega (arith, c.end_of.ensures, ap length c.packet_in-packet.ensures, l)
 
 pub returns : goal.returns
@@ -48,7 +49,8 @@ returns c =
     let e : d.packet_in-packet.result.now ≡ packet_in t = d.packet_in-packet.ensures in
     let n : d.end_of.result ≡ 4 + length (packet_in t) = d.end_of.ensures ∙ ap (λ (l : List ℕ). 4 + length l) e in
     let rest = command_rules (packet_in t) a.link.mode x in
-    let h : first_broken (characteristic_rules v t) ≡ 0 = sym d.judge_characteristic-late.ensures ∙ d.if-late-ne0.false in
+    let none : c.judge_characteristic-late.result ≡ 0 = omega arith in
+    let h : first_broken (characteristic_rules v t) ≡ 0 = sym d.judge_characteristic-late.ensures ∙ none in
     ap₂ opened_command_as
     (d.answer_by-answer.ensures
     ∙ ap (command_answer_by d.end_of.result)
