@@ -20,7 +20,7 @@ def timed(program, capture, out):
 
 def main():
     rounds, folder, kinds = int(sys.argv[1]), sys.argv[2], sys.argv[3:]
-    ours, plain = "target/bin/line_lister", f"{folder}/reference"
+    ours, plain = "crates/line_lister/out/line_lister", f"{folder}/reference"
     print(f"{'capture':8} {'ours ns':>8} {'Rust ns':>8} {'least/least':>12} {'median':>7}  events")
     for kind in kinds:
         capture = f"{folder}/{kind}.capture"
