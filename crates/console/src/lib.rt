@@ -1,7 +1,7 @@
 // Standard input for the programs: a buffer filled from it.
 #![tactic(auto)]
 
-ghost use Rattle.std.specs.Prelude.{◌≡◌, ◌≤◌, IfOk, length};
+ghost use Rattle.std.specs.Prelude.{◌≡◌, ◌≤◌, IfOk, length, replicate};
 
 use std::io;
 use std::io::Read;
@@ -24,7 +24,7 @@ pub fn read_full<R: Input>(rt: &R, buf: &mut [u8]) -> io::Result<usize>
 
 // 65,536 zeros.
 pub fn large_buffer() -> [u8; 65536]
-    ensures { 65536 ≡ length result }
+    ensures { result ≡ replicate 65536 0 }
 {
     [0; 65536]
 }
