@@ -6,7 +6,8 @@ use native.Mathlib.Omega.{arith}
 use lib.ListN.{length, length-append}
 use lib.Seq.{sets}
 use Rattle.wire.specs.Writing.{Stores, no_room}
-use Rattle.wire.specs.declared.Written.TheVariants.{Wrote, Refused}
+use Rattle.std.specs.Prelude.{Ok}
+use Rattle.wire.specs.Refusals.{refusing}
 use Rattle.wire.proofs.Lists.{sets_then}
 use Rattle.wire.proofs.Writing.{stores_short, stores_made}
 
@@ -25,13 +26,13 @@ module _ (a b c d e room : List ℕ) where
       omega (arith, length-append a (b ++ (c ++ (d ++ e))), length-append b (c ++ (d ++ e)), length-append c (d ++ e), length-append d e)
 
   pub five_short : length room < length a + length b + length c + length d + length e
-      → Stores (no_room 0 (a ++ (b ++ (c ++ (d ++ e)))) room ∷ []) 0 (a ++ (b ++ (c ++ (d ++ e)))) room (Refused 25) room
+      → Stores (no_room 0 (a ++ (b ++ (c ++ (d ++ e)))) room ∷ []) 0 (a ++ (b ++ (c ++ (d ++ e)))) room (refusing 25) room
   five_short h = stores_short 0 (a ++ (b ++ (c ++ (d ++ e)))) room (omega (arith, five_length))
 
   pub five_made : {after : List ℕ} {all i j k n : ℕ} → length a + length b + length c + length d + length e ≤ length room
       → i ≡ length a → j ≡ i + length b → k ≡ j + length c → n ≡ k + length d
       → after ≡ sets (sets (sets (sets (sets room 0 a) i b) j c) k d) n e → all ≡ n + length e
-      → Stores (no_room 0 (a ++ (b ++ (c ++ (d ++ e)))) room ∷ []) 0 (a ++ (b ++ (c ++ (d ++ e)))) room (Wrote all) after
+      → Stores (no_room 0 (a ++ (b ++ (c ++ (d ++ e)))) room ∷ []) 0 (a ++ (b ++ (c ++ (d ++ e)))) room (Ok all) after
   five_made {i} {j} {k} {n} h hi hj hk hn s l =
       stores_made 0 (a ++ (b ++ (c ++ (d ++ e)))) room (omega (arith, five_length)) (s ∙ sets_five a b c d e room i j k n hi hj hk hn)
       (omega (arith, five_length))

@@ -1,3 +1,4 @@
+pub mod Refusals
 pub mod Choice
 pub mod Rules
 pub mod Numbers

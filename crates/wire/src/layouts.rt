@@ -3,7 +3,7 @@ ghost use Rattle.std.specs.Prelude.{◌≡◌, ◌++◌, ◌∷◌, []};
 ghost use Rattle.wire.specs.Fields.{past, second_above};
 ghost use Rattle.wire.specs.Writing.{Stores, no_room};
 
-use crate::{Part, Written};
+use crate::{Part, Refusal};
 
 // Whether a part runs past the end of a slice.
 pub fn runs_past(s: &[u8], p: Part) -> bool
@@ -35,29 +35,36 @@ pub fn second_above(limit: u8, s: &[u8]) -> bool
 }
 
 // An image of five slices, one behind the other, at the front; 25 where there is no room for it.
-pub fn write5(a: &[u8], b: &[u8], c: &[u8], d: &[u8], e: &[u8], out: &mut [u8]) -> Written
+pub fn write5(
+    a: &[u8],
+    b: &[u8],
+    c: &[u8],
+    d: &[u8],
+    e: &[u8],
+    out: &mut [u8],
+) -> Result<usize, Refusal>
     ensures { Stores (no_room 0 (a.now ++ (b.now ++ (c.now ++ (d.now ++ e.now)))) out.old ∷ []) 0
         (a.now ++ (b.now ++ (c.now ++ (d.now ++ e.now)))) out.old result out.new }
 {
     let room = out.len();
     let to_b = a.len();
     if room < to_b {
-        return Written::Refused(25);
+        return Err(Refusal::NoRoom);
     }
     if room - to_b < b.len() {
-        return Written::Refused(25);
+        return Err(Refusal::NoRoom);
     }
     let to_c = to_b + b.len();
     if room - to_c < c.len() {
-        return Written::Refused(25);
+        return Err(Refusal::NoRoom);
     }
     let to_d = to_c + c.len();
     if room - to_d < d.len() {
-        return Written::Refused(25);
+        return Err(Refusal::NoRoom);
     }
     let to_e = to_d + d.len();
     if room - to_e < e.len() {
-        return Written::Refused(25);
+        return Err(Refusal::NoRoom);
     }
     let all = to_e + e.len();
     crate::copy(a, 0, out);
@@ -65,5 +72,5 @@ pub fn write5(a: &[u8], b: &[u8], c: &[u8], d: &[u8], e: &[u8], out: &mut [u8]) 
     crate::copy(c, to_c, out);
     crate::copy(d, to_d, out);
     crate::copy(e, to_e, out);
-    Written::Wrote(all)
+    Ok(all)
 }

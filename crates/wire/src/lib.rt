@@ -2,6 +2,7 @@
 #![tactic(auto)]
 
 pub mod layouts;
+mod refusals;
 
 ghost use Rattle.std.specs.Prelude.{◌≡◌, ◌++◌, ◌∷◌, [], ◌+◌, ◌-◌, ◌%◌, ◌≤◌, ◌<◌, length, get_or};
 ghost use Rattle.std.proofs.lemmas.List.Edits.{sets};
@@ -11,18 +12,13 @@ ghost use Rattle.wire.specs.Same.{same_bytes};
 ghost use Rattle.wire.specs.Signed.{signed, unsigned};
 ghost use Rattle.wire.specs.Writing.{Stores, no_room};
 
+pub use refusals::Refusal;
+
 // A part of a lent slice.
 #[derive(Clone, Copy)]
 pub struct Part {
     pub start: usize,
     pub len: usize,
-}
-
-// The answer of a writer: an image's length, or a refusal's number.
-#[derive(Clone, Copy)]
-pub enum Written {
-    Wrote(usize),
-    Refused(u8),
 }
 
 // A byte as a count.
@@ -210,39 +206,39 @@ fn copy(bytes: &[u8], at: usize, out: &mut [u8])
 }
 
 // Bytes from a place on; 25 where there is no room for them.
-pub fn store(bytes: &[u8], at: usize, out: &mut [u8]) -> Written
+pub fn store(bytes: &[u8], at: usize, out: &mut [u8]) -> Result<usize, Refusal>
     ensures { Stores (no_room at bytes.now out.old ∷ []) at bytes.now out.old result out.new }
 {
     if out.len() < at {
-        return Written::Refused(25);
+        return Err(Refusal::NoRoom);
     }
     if out.len() - at < bytes.len() {
-        return Written::Refused(25);
+        return Err(Refusal::NoRoom);
     }
     copy(bytes, at, out);
-    Written::Wrote(bytes.len())
+    Ok(bytes.len())
 }
 
 // An image of three slices, one behind the other, at the front; 25 where there is no room for it.
-pub fn write3(a: &[u8], b: &[u8], c: &[u8], out: &mut [u8]) -> Written
+pub fn write3(a: &[u8], b: &[u8], c: &[u8], out: &mut [u8]) -> Result<usize, Refusal>
     ensures { Stores (no_room 0 (a.now ++ (b.now ++ c.now)) out.old ∷ []) 0
         (a.now ++ (b.now ++ c.now)) out.old result out.new }
 {
     let room = out.len();
     let la = a.len();
     if room < la {
-        return Written::Refused(25);
+        return Err(Refusal::NoRoom);
     }
     let lb = b.len();
     if room - la < lb {
-        return Written::Refused(25);
+        return Err(Refusal::NoRoom);
     }
     let lc = c.len();
     if room - la - lb < lc {
-        return Written::Refused(25);
+        return Err(Refusal::NoRoom);
     }
     copy(a, 0, out);
     copy(b, la, out);
     copy(c, la + lb, out);
-    Written::Wrote(la + lb + lc)
+    Ok(la + lb + lc)
 }
