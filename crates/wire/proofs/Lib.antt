@@ -1,5 +1,6 @@
 pub mod Choice
 pub mod Rules
+pub mod Listed
 pub mod Lists
 pub mod Numbers
 pub mod Writing
