@@ -1,0 +1,39 @@
+-- Refusals and their numbers. Assumes nothing.
+use mathlib.Core.Path.{◌≡◌, refl, ap, subst, ◌∙◌}
+use mathlib.Core.Bool.{Bool, true, false}
+use mathlib.Core.List.{List, [], ◌∷◌}
+use Prim.Native.Nat.{ℕ, zero, suc}
+use native.Mathlib.Omega.{arith}
+use lib.Dec.{T, eqb}
+use borrow.Author.Tests.{eqb-true}
+use Rattle.std.specs.Prelude.{Result, Ok, Err}
+use Rattle.wire.specs.Refusals.{number_of, refusal_of, refusing}
+use Rattle.wire.specs.Rules.{Rule, ◌when◌, given, or_else, first_broken, verdict, judge}
+use Rattle.wire.specs.declared.refusals.Refusal.{Refusal}
+
+-- each number of a list of rules is a refusal's: `(tt, (tt, ..))` where the numbers are literals
+abbrev pub Listed : List Rule → Type 0
+Listed [] = Unit {0}
+Listed ((n when b) ∷ rs) = T (eqb (number_of (refusal_of n)) n) × Listed rs
+
+is_true : (b : Bool) → T b → b ≡ true
+is_true true t = refl
+is_true false t = absurd t
+
+-- the number of a refusal that is given for a broken rule is the rule's
+pub first_listed : (rs : List Rule) → Listed rs → (n : ℕ) → first_broken rs ≡ suc n → number_of (refusal_of (suc n)) ≡ suc n
+first_listed [] l n e = absurd (omega arith)
+first_listed ((zero when true) ∷ rs) l n e = first_listed rs l.1 n e
+first_listed ((suc m when true) ∷ rs) l n e =
+    subst (λ (k : ℕ). number_of (refusal_of k) ≡ k) e (eqb-true (number_of (refusal_of (suc m))) (suc m) (is_true _ l.0))
+first_listed ((m when false) ∷ rs) l n e = first_listed rs l.1 n e
+
+-- a function of an answer, known of each refusal by its number and, with no rule broken, of the good answer
+pub judge_listed : {A B : Type 0} (f : Result A Refusal → B) (refuse : ℕ → B) (rules : List Rule) (good : Result A Refusal) (good' : B)
+    → Listed rules → ((r : Refusal) → f (Err r) ≡ refuse (number_of r)) → (first_broken rules ≡ 0 → f good ≡ good')
+    → f (judge refusing rules good) ≡ judge refuse rules good'
+judge_listed f refuse rules good good' l r g = go (first_broken rules) refl
+  where
+    go : (n : ℕ) → first_broken rules ≡ n → f (verdict refusing n good) ≡ verdict refuse n good'
+    go zero e = g e
+    go (suc n) e = r (refusal_of (suc n)) ∙ ap refuse (first_listed rules l n e)
