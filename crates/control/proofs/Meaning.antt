@@ -18,7 +18,7 @@ use Rattle.wire.proofs.Content.{same_content}
 use Rattle.wire.proofs.Fields.{part_end}
 use Rattle.wire.proofs.Lists.{part_in, nil_of}
 use Rattle.wire.proofs.Lookup.{lookup_all, ◌also◌}
-use Rattle.wire.proofs.Rules.{judge_map}
+use Rattle.wire.proofs.Listed.{judge_listed}
 use Rattle.wire.proofs.Signed.{unsigned_signed}
 use Rattle.access.specs.declared.Mode.{Mode}
 use Rattle.access.specs.declared.Access.{Access}
@@ -28,8 +28,9 @@ use Rattle.control.specs.Control.{control_rules, command_of, command_at, read_co
 use Rattle.control.specs.Accepts.{CommandHolds}
 use Rattle.control.proofs.Reading.{control_accepts}
 use Rattle.control.specs.declared.Command.{Command}
-use Rattle.control.specs.declared.ControlRead.{ControlRead}
-use Rattle.control.specs.declared.ControlRead.TheVariants.{Accepted, Refused}
+use Rattle.std.specs.Prelude.{Result}
+use Rattle.wire.specs.declared.refusals.Refusal.{Refusal}
+use Rattle.std.specs.Prelude.{Ok}
 
 -- nothing stands behind a payload of exactly so many bytes
 pub none_behind : (q : List ℕ) (k : ℕ) → not (eqb (length q) k) ≡ false → [] ≡ drop k q
@@ -105,12 +106,12 @@ packet_content p m a e =
     (row_content (drop 5 p) (num 2 1 p) w.listed w.sized w.right).content
 
 -- its promise, from the equation by cases
-pub reads_control : (p : List ℕ) (m : Mode) (a : Access) {r : ControlRead} → r ≡ read_control p m a → ReadsControl p m a r
+pub reads_control : (p : List ℕ) (m : Mode) (a : Access) {r : Result Command Refusal} → r ≡ read_control p m a → ReadsControl p m a r
 reads_control p m a e =
     record {
       content =
-          ap (λ (r : ControlRead). control_answer r p) e
-          ∙ judge_map (λ (r : ControlRead). control_answer r p) Refused refused (control_rules p m a) (Accepted (command_at p)) (accepted (control_content p))
-          (λ n. refl) (λ h. ap accepted (packet_content p m a h));
+          ap (λ (r : Result Command Refusal). control_answer r p) e
+          ∙ judge_listed (λ (r : Result Command Refusal). control_answer r p) refused (control_rules p m a) (Ok (command_at p)) (accepted (control_content p))
+          (tt, (tt, (tt, (tt, (tt, (tt, (tt, tt))))))) (λ r. refl) (λ h. ap accepted (packet_content p m a h));
       answer = e;
     }

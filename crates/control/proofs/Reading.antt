@@ -14,20 +14,23 @@ use Rattle.access.specs.declared.Access.{Access}
 use Rattle.control.specs.Table.{Row, row_of}
 use Rattle.control.specs.Control.{length_rules, command_rules, control_rules, row_rules, mark_rules, payload_rules, command_of, command_at, read_control, read_command, read_row, read_payload}
 use Rattle.control.specs.Accepts.{Permits, Accepts}
-use Rattle.control.specs.declared.ControlRead.{ControlRead}
-use Rattle.control.specs.declared.ControlRead.TheVariants.{Accepted, Refused}
+use Rattle.std.specs.Prelude.{Result}
+use Rattle.wire.specs.declared.refusals.Refusal.{Refusal}
+use Rattle.control.specs.declared.Command.{Command}
+use Rattle.wire.specs.Refusals.{refusing}
+use Rattle.std.specs.Prelude.{Ok}
 
 -- a listed command: its marks, then its payload
-pub row_read : (r : Row) (q : List ℕ) (m : Mode) (a : Access) {read answer : ControlRead} → r.listed ≡ true → read ≡ read_payload r q
-    → answer ≡ judge Refused (mark_rules r.marked m a) read → answer ≡ read_row r q m a
+pub row_read : (r : Row) (q : List ℕ) (m : Mode) (a : Access) {read answer : Result Command Refusal} → r.listed ≡ true → read ≡ read_payload r q
+    → answer ≡ judge refusing (mark_rules r.marked m a) read → answer ≡ read_row r q m a
 row_read r q m a l e h =
-    h ∙ ap (judge Refused (mark_rules r.marked m a)) e
-    ∙ sym (judge_append Refused (mark_rules r.marked m a) (payload_rules r.payload q) (Accepted (command_of r q)))
+    h ∙ ap (judge refusing (mark_rules r.marked m a)) e
+    ∙ sym (judge_append refusing (mark_rules r.marked m a) (payload_rules r.payload q) (Ok (command_of r q)))
     ∙ sym (rw l)
 
 -- 18, then the rest
-pub control_read : (p : List ℕ) (m : Mode) (a : Access) → read_control p m a ≡ judge Refused (length_rules p) (read_command p m a)
-control_read p m a = judge_append Refused (length_rules p) (command_rules p m a) (Accepted (command_at p))
+pub control_read : (p : List ℕ) (m : Mode) (a : Access) → read_control p m a ≡ judge refusing (length_rules p) (read_command p m a)
+control_read p m a = judge_append refusing (length_rules p) (command_rules p m a) (Ok (command_at p))
 
 -- ---- no rule is broken
 pub row_permits : (r : Row) (q : List ℕ) (m : Mode) (a : Access) → first_broken (row_rules r q m a) ≡ 0 → Permits r q m a

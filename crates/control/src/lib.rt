@@ -12,7 +12,7 @@ ghost use Rattle.control.specs.Control.{ReadsControl, read_command, read_row};
 use crate::marks::{A, AM, AMB, AMBS, S, by_mark};
 use access::{Access, Mode};
 use units::Minutes;
-use wire::Part;
+use wire::{Part, Refusal};
 
 // A part in a command counts from the start of the command's payload.
 #[derive(Clone, Copy)]
@@ -96,12 +96,6 @@ pub struct DeviceHeartbeatFields {
     pub ttl: Minutes,
 }
 
-#[derive(Clone, Copy)]
-pub enum ControlRead {
-    Accepted(Command),
-    Refused(u8),
-}
-
 // The part of the key with an index from 0 to 5; an empty one for any other, and where the keys are not 96 bytes of a payload.
 pub fn key_part(keys: Part, index: usize) -> Part
     ensures { result ≡ key_part keys index }
@@ -123,24 +117,24 @@ pub fn key_part(keys: Part, index: usize) -> Part
 }
 
 // A control packet that came in a mode, plain or with a level's key: 18 to 24, or the command.
-pub fn read_control(packet: &[u8], mode: Mode, access: Access) -> ControlRead
+pub fn read_control(packet: &[u8], mode: Mode, access: Access) -> Result<Command, Refusal>
     ensures { ReadsControl packet.now mode access result }
 {
     if packet.len() < 5 {
-        return ControlRead::Refused(18);
+        return Err(Refusal::BadPacketLength);
     }
     if packet.len() != 5 + (wire::read_u16(packet, 3) as usize) {
-        return ControlRead::Refused(18);
+        return Err(Refusal::BadPacketLength);
     }
     read_command(packet, mode, access)
 }
 
 // Protocol, command type and payload of a packet, whatever its size field: 19 to 24, or the command.
-fn read_command(packet: &[u8], mode: Mode, access: Access) -> ControlRead
+fn read_command(packet: &[u8], mode: Mode, access: Access) -> Result<Command, Refusal>
     ensures { result ≡ read_command packet.now mode access }
 {
     if wire::byte_at(packet, 0) != 5 {
-        return ControlRead::Refused(19);
+        return Err(Refusal::UnknownProtocol);
     }
     read_row(wire::read_u16(packet, 1), payload(packet), mode, access)
 }
@@ -156,7 +150,7 @@ fn payload(p: &[u8]) -> &[u8]
 }
 
 // The table of commands: number, marks, payload.
-fn read_row(number: u16, q: &[u8], mode: Mode, access: Access) -> ControlRead
+fn read_row(number: u16, q: &[u8], mode: Mode, access: Access) -> Result<Command, Refusal>
     ensures { result ≡ read_row (row_of number) q.now mode access }
 {
     match number {
@@ -182,6 +176,6 @@ fn read_row(number: u16, q: &[u8], mode: Mode, access: Access) -> ControlRead
         71 => by_mark(AMB, mode, access, payloads::tracked_device_heartbeat(q)),
         72 => by_mark(AM, mode, access, payloads::none(q, Command::GetPresence)),
         80 => by_mark(A, mode, access, payloads::none(q, Command::GetUptime)),
-        _ => ControlRead::Refused(20),
+        _ => Err(Refusal::UnknownCommand),
     }
 }

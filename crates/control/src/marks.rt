@@ -3,10 +3,11 @@ ghost use Rattle.std.specs.Prelude.{◌≡◌};
 ghost use Rattle.wire.specs.Rules.{judge};
 ghost use Rattle.control.specs.Table.{in_mode, has_mark};
 ghost use Rattle.control.specs.Control.{mark_rules};
-ghost use Rattle.control.specs.declared.ControlRead.TheVariants.{Refused};
+ghost use Rattle.wire.specs.Refusals.{refusing};
 
-use crate::ControlRead;
+use crate::Command;
 use access::{Access, Level, Mode};
+use wire::Refusal;
 
 #[derive(Clone, Copy)]
 pub struct Marks {
@@ -86,16 +87,21 @@ pub fn has_mark(marks: Marks, access: Access) -> bool
 }
 
 // What was read of the payload, if the marks permit it.
-pub fn by_mark(marks: Marks, mode: Mode, access: Access, read: ControlRead) -> ControlRead
-    ensures { result ≡ judge Refused (mark_rules marks mode access) read }
+pub fn by_mark(
+    marks: Marks,
+    mode: Mode,
+    access: Access,
+    read: Result<Command, Refusal>,
+) -> Result<Command, Refusal>
+    ensures { result ≡ judge refusing (mark_rules marks mode access) read }
 {
     if in_mode(marks, mode) {
         if has_mark(marks, access) {
             read
         } else {
-            ControlRead::Refused(22)
+            Err(Refusal::NoMarkForLevel)
         }
     } else {
-        ControlRead::Refused(21)
+        Err(Refusal::NoMarkForMode)
     }
 }

@@ -5,19 +5,19 @@ ghost use Rattle.control.specs.Table.{row_of, state};
 ghost use Rattle.control.specs.Control.{read_payload, read_none};
 
 use crate::{
-    Command, ControlRead, DeviceHeartbeatFields, GetStateFields, IbeaconFields, MultiSwitchFields,
+    Command, DeviceHeartbeatFields, GetStateFields, IbeaconFields, MultiSwitchFields,
     SetStateFields, SetupFields, TrackedDeviceFields,
 };
 use units::Minutes;
-use wire::Part;
+use wire::{Part, Refusal};
 
-pub fn setup(q: &[u8]) -> ControlRead
+pub fn setup(q: &[u8]) -> Result<Command, Refusal>
     ensures { result ≡ read_payload (row_of 0) q.now }
 {
     if q.len() < 98 {
-        return ControlRead::Refused(23);
+        return Err(Refusal::BadCommandLength);
     }
-    ControlRead::Accepted(Command::Setup(SetupFields {
+    Ok(Command::Setup(SetupFields {
         stone: q[0],
         sphere: q[1],
         keys: Part { start: 2, len: 96 },
@@ -28,16 +28,16 @@ pub fn setup(q: &[u8]) -> ControlRead
     }))
 }
 
-pub fn factory_reset(q: &[u8]) -> ControlRead
+pub fn factory_reset(q: &[u8]) -> Result<Command, Refusal>
     ensures { result ≡ read_payload (row_of 1) q.now }
 {
     if q.len() != 4 {
-        return ControlRead::Refused(23);
+        return Err(Refusal::BadCommandLength);
     }
     if wire::read_u32(q, 0) != 0xDEADBEEF {
-        return ControlRead::Refused(24);
+        return Err(Refusal::BadCommandField);
     }
-    ControlRead::Accepted(Command::FactoryReset)
+    Ok(Command::FactoryReset)
 }
 
 // Whether a state's mode is above a limit, or what is reserved behind it is not 0.
@@ -53,32 +53,32 @@ fn state_wrong(q: &[u8], most: u8) -> bool
     false
 }
 
-pub fn get_state(q: &[u8]) -> ControlRead
+pub fn get_state(q: &[u8]) -> Result<Command, Refusal>
     ensures { result ≡ read_payload (row_of 2) q.now }
 {
     if q.len() != 6 {
-        return ControlRead::Refused(23);
+        return Err(Refusal::BadCommandLength);
     }
     if state_wrong(q, 2) {
-        return ControlRead::Refused(24);
+        return Err(Refusal::BadCommandField);
     }
-    ControlRead::Accepted(Command::GetState(GetStateFields {
+    Ok(Command::GetState(GetStateFields {
         kind: wire::read_u16(q, 0),
         id: wire::read_u16(q, 2),
         mode: q[4],
     }))
 }
 
-pub fn set_state(q: &[u8]) -> ControlRead
+pub fn set_state(q: &[u8]) -> Result<Command, Refusal>
     ensures { result ≡ read_payload (row_of 3) q.now }
 {
     if q.len() < 6 {
-        return ControlRead::Refused(23);
+        return Err(Refusal::BadCommandLength);
     }
     if state_wrong(q, 1) {
-        return ControlRead::Refused(24);
+        return Err(Refusal::BadCommandField);
     }
-    ControlRead::Accepted(Command::SetState(SetStateFields {
+    Ok(Command::SetState(SetStateFields {
         kind: wire::read_u16(q, 0),
         id: wire::read_u16(q, 2),
         mode: q[4],
@@ -89,50 +89,50 @@ pub fn set_state(q: &[u8]) -> ControlRead
     }))
 }
 
-pub fn ibeacon_config(q: &[u8]) -> ControlRead
+pub fn ibeacon_config(q: &[u8]) -> Result<Command, Refusal>
     ensures { result ≡ read_payload (row_of 6) q.now }
 {
     if q.len() != 7 {
-        return ControlRead::Refused(23);
+        return Err(Refusal::BadCommandLength);
     }
     let id = q[0];
     if 1 < id {
-        return ControlRead::Refused(24);
+        return Err(Refusal::BadCommandField);
     }
-    ControlRead::Accepted(Command::IbeaconConfig(IbeaconFields {
+    Ok(Command::IbeaconConfig(IbeaconFields {
         id,
         timestamp: wire::read_u32(q, 1),
         interval: wire::read_u16(q, 5),
     }))
 }
 
-pub fn switch(q: &[u8]) -> ControlRead
+pub fn switch(q: &[u8]) -> Result<Command, Refusal>
     ensures { result ≡ read_payload (row_of 20) q.now }
 {
     if q.len() != 1 {
-        return ControlRead::Refused(23);
+        return Err(Refusal::BadCommandLength);
     }
     let value = q[0];
     if 100 < value {
-        return ControlRead::Refused(24);
+        return Err(Refusal::BadCommandField);
     }
-    ControlRead::Accepted(Command::Switch(value))
+    Ok(Command::Switch(value))
 }
 
-pub fn multi_switch(q: &[u8]) -> ControlRead
+pub fn multi_switch(q: &[u8]) -> Result<Command, Refusal>
     ensures { result ≡ read_payload (row_of 21) q.now }
 {
     if q.len() == 0 {
-        return ControlRead::Refused(23);
+        return Err(Refusal::BadCommandLength);
     }
     let count = q[0];
     if q.len() != 1 + 2 * wire::wide(count) {
-        return ControlRead::Refused(23);
+        return Err(Refusal::BadCommandLength);
     }
     if wire::layouts::second_above(100, &q[1..]) {
-        return ControlRead::Refused(24);
+        return Err(Refusal::BadCommandField);
     }
-    ControlRead::Accepted(Command::MultiSwitch(MultiSwitchFields {
+    Ok(Command::MultiSwitch(MultiSwitchFields {
         count,
         pairs: Part {
             start: 1,
@@ -141,13 +141,13 @@ pub fn multi_switch(q: &[u8]) -> ControlRead
     }))
 }
 
-pub fn register_tracked_device(q: &[u8]) -> ControlRead
+pub fn register_tracked_device(q: &[u8]) -> Result<Command, Refusal>
     ensures { result ≡ read_payload (row_of 70) q.now }
 {
     if q.len() != 11 {
-        return ControlRead::Refused(23);
+        return Err(Refusal::BadCommandLength);
     }
-    ControlRead::Accepted(Command::RegisterTrackedDevice(TrackedDeviceFields {
+    Ok(Command::RegisterTrackedDevice(TrackedDeviceFields {
         device: wire::read_u16(q, 0),
         location: q[2],
         profile: q[3],
@@ -159,17 +159,17 @@ pub fn register_tracked_device(q: &[u8]) -> ControlRead
 }
 
 // A device's heartbeat holds for at most 60 minutes.
-pub fn tracked_device_heartbeat(q: &[u8]) -> ControlRead
+pub fn tracked_device_heartbeat(q: &[u8]) -> Result<Command, Refusal>
     ensures { result ≡ read_payload (row_of 71) q.now }
 {
     if q.len() != 7 {
-        return ControlRead::Refused(23);
+        return Err(Refusal::BadCommandLength);
     }
     let minutes = wire::byte_at(q, 6);
     if 60 < minutes {
-        return ControlRead::Refused(24);
+        return Err(Refusal::BadCommandField);
     }
-    ControlRead::Accepted(Command::TrackedDeviceHeartbeat(DeviceHeartbeatFields {
+    Ok(Command::TrackedDeviceHeartbeat(DeviceHeartbeatFields {
         device: wire::read_u16(q, 0),
         location: q[2],
         token: wire::read_u24(q, 3),
@@ -178,11 +178,11 @@ pub fn tracked_device_heartbeat(q: &[u8]) -> ControlRead
 }
 
 // A command that has no payload.
-pub fn none(q: &[u8], command: Command) -> ControlRead
+pub fn none(q: &[u8], command: Command) -> Result<Command, Refusal>
     ensures { result ≡ read_none command q.now }
 {
     if q.len() != 0 {
-        return ControlRead::Refused(23);
+        return Err(Refusal::BadCommandLength);
     }
-    ControlRead::Accepted(command)
+    Ok(command)
 }

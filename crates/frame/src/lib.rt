@@ -9,7 +9,7 @@ ghost use Rattle.crc.specs.Crc.{crc_of};
 ghost use Rattle.frame.specs.Image.{is_mark, escape_byte, escape, covered, image};
 ghost use Rattle.frame.specs.Writer.{bad_frame, header_of, sent};
 
-use wire::Written;
+use wire::Refusal;
 
 // The start byte or the escape byte.
 fn is_mark(b: u8) -> bool
@@ -93,17 +93,17 @@ fn sent_len(head: &[u8], payload: &[u8], tail: &[u8]) -> usize
 }
 
 // A start byte and three parts go out at the front: 25 where there is no room.
-fn send(head: &[u8], payload: &[u8], tail: &[u8], out: &mut [u8]) -> Written
+fn send(head: &[u8], payload: &[u8], tail: &[u8], out: &mut [u8]) -> Result<usize, Refusal>
     requires { length head.now + length payload.now + length tail.now ≤ 1000 }
     ensures { Stores (no_room 0 (sent head.now payload.now tail.now) out.old ∷ []) 0
         (sent head.now payload.now tail.now) out.old result out.new }
 {
     let need = sent_len(head, payload, tail);
     if out.len() < need {
-        return Written::Refused(25);
+        return Err(Refusal::NoRoom);
     }
     put_frame(out, head, payload, tail);
-    Written::Wrote(need)
+    Ok(need)
 }
 
 // What stands before the payload: size, major, minor and wrapper type.
@@ -138,11 +138,11 @@ fn bad_frame(wrapper: u8, len: usize) -> bool
 }
 
 // The frame at the front of `out`: 17 for a wrapper type or a size that no frame has, then 25 where there is no room.
-pub fn write_frame(wrapper: u8, payload: &[u8], out: &mut [u8]) -> Written
+pub fn write_frame(wrapper: u8, payload: &[u8], out: &mut [u8]) -> Result<usize, Refusal>
     ensures { Writes (bad_frame wrapper (length payload.now)) (image wrapper payload.now) out.old result out.new }
 {
     if bad_frame(wrapper, payload.len()) {
-        return Written::Refused(17);
+        return Err(Refusal::BadMessageData);
     }
     let head = header(wrapper, payload.len());
     let tail = trailer(wrapper, payload);
