@@ -6,25 +6,24 @@ use Rattle.wire.proofs.Lookup.{lookup_all, ◌also◌}
 use Rattle.access.specs.Level.{level_number, levels, level_of}
 use Rattle.access.specs.declared.Level.{Level}
 use Rattle.access.specs.declared.Level.TheVariants.{Admin, Member, Basic, Setup}
-use Rattle.access.specs.declared.LevelRead.{LevelRead}
-use Rattle.access.specs.declared.LevelRead.TheVariants.{Known, Unknown}
+use Rattle.std.specs.Prelude.{Option, Some, None}
 
-pub level_back : (l : Level) → level_of (level_number l) ≡ Known l
+pub level_back : (l : Level) → level_of (level_number l) ≡ Some l
 level_back Admin = refl
 level_back Member = refl
 level_back Basic = refl
 level_back Setup = refl
 
 -- a level that was read has the number that it was read from
-abbrev Has : ℕ → LevelRead → Type 0
-Has n r = (l : Level) → r ≡ Known l → n ≡ level_number l
+abbrev Has : ℕ → Option Level → Type 0
+Has n r = (l : Level) → r ≡ Some l → n ≡ level_number l
 
-same : (k l : Level) → Known k ≡ Known l → level_number k ≡ level_number l
+same : (k l : Level) → Some k ≡ Some l → level_number k ≡ level_number l
 same k l e = let d : k ≡ l = cc in rw d
 
-pub level_read : (n : ℕ) (l : Level) → level_of n ≡ Known l → n ≡ level_number l
+pub level_read : (n : ℕ) (l : Level) → level_of n ≡ Some l → n ≡ level_number l
 level_read n =
-    lookup_all level_number Known Unknown (Has n) levels n
+    lookup_all level_number Some None (Has n) levels n
     ((λ h l e. h ∙ same Admin l e)
     also (λ h l e. h ∙ same Member l e)
     also (λ h l e. h ∙ same Basic l e)

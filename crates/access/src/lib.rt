@@ -28,13 +28,6 @@ pub enum Access {
     Unknown,
 }
 
-// A byte read as a level.
-#[derive(Clone, Copy)]
-pub enum LevelRead {
-    Known(Level),
-    Unknown,
-}
-
 // A level's number.
 pub fn level_number(level: Level) -> u8
     ensures { result ≡ level_number level }
@@ -48,14 +41,14 @@ pub fn level_number(level: Level) -> u8
 }
 
 // The level that has a number.
-pub fn level_of(number: u8) -> LevelRead
+pub fn level_of(number: u8) -> Option<Level>
     ensures { (number_read result ≡ pick (is_level number) (number ∷ []) []) × (result ≡ level_of number) }
 {
     match number {
-        0 => LevelRead::Known(Level::Admin),
-        1 => LevelRead::Known(Level::Member),
-        2 => LevelRead::Known(Level::Basic),
-        100 => LevelRead::Known(Level::Setup),
-        _ => LevelRead::Unknown,
+        0 => Some(Level::Admin),
+        1 => Some(Level::Member),
+        2 => Some(Level::Basic),
+        100 => Some(Level::Setup),
+        _ => None,
     }
 }
