@@ -11,6 +11,8 @@ use Rattle.wire.specs.Choice.{pick}
 use Rattle.wire.specs.Numbers.{num}
 use Rattle.wire.specs.Parts.{part_of}
 use Rattle.wire.specs.Rules.{first_broken}
+use Rattle.std.specs.Prelude.{Result, Ok}
+use Rattle.wire.specs.declared.refusals.Refusal.{Refusal}
 use Rattle.wire.specs.Content.{accepted, refused, content}
 use Rattle.wire.specs.Fields.{wrong_size, content_by}
 use Rattle.wire.proofs.Choice.{true_false}
@@ -18,13 +20,13 @@ use Rattle.wire.proofs.Content.{accepted_is}
 use Rattle.wire.proofs.Fields.{part_end}
 use Rattle.wire.proofs.Held.{held}
 use Rattle.wire.proofs.Lookup.{lookup_all, ◌also◌}
-use Rattle.wire.proofs.Rules.{judge_map}
-use Rattle.result.specs.Result.{Outcome, done, waiting, failed, code_means, is_done, anything, Row, table, other_row, row_of, payload_for, made, result_rules, resulting, result_content, mask_values, result_answer, case_for, outcome_of, result_at, read_result, ReadsResult}
+use Rattle.wire.proofs.Listed.{judge_listed}
+use Rattle.result.specs.Result.{Outcome, done, waiting, failed, code_means, is_done, anything, Row, table, other_row, row_of, payload_for, made, result_rules, resulting, result_content, mask_values, read_content, result_answer, case_for, outcome_of, result_at, read_result, ReadsResult}
 use Rattle.result.specs.declared.ResultPacket.{ResultPacket}
 use Rattle.result.specs.declared.PresenceResult.{PresenceResult}
 use Rattle.result.specs.declared.UptimeResult.{UptimeResult}
 use Rattle.result.specs.declared.ResultRead.{ResultRead}
-use Rattle.result.specs.declared.ResultRead.TheVariants.{Presence, Uptime, Refused}
+use Rattle.result.specs.declared.ResultRead.TheVariants.{Presence, Uptime}
 
 -- ---- outcomes
 pub is_done_lem : (o : Outcome) → is_done o ≡ true → o ≡ done
@@ -54,7 +56,7 @@ module _ (r : ResultPacket) (s q : List ℕ) (named : part_of s r.payload ≡ q)
 
   -- what is claimed of a row
   abbrev Claim : Row → Type 0
-  Claim w = result_answer (made w r q) s ≡ accepted (resulting done r.code (content_by r.command w.payload q))
+  Claim w = read_content (made w r q) s ≡ resulting done r.code (content_by r.command w.payload q)
 
   -- each row's answer holds what the row reads
   row_content : Claim (row_of r.command)
@@ -62,35 +64,36 @@ module _ (r : ResultPacket) (s q : List ℕ) (named : part_of s r.payload ≡ q)
       lookup_all (λ (w : Row). w.command) (λ (w : Row). w) other_row Claim table r.command
       ((λ e. rw e)
       also (λ e. rw e)
-      also ap accepted (as_part done))
+      also as_part done)
 
-  pub case_content : (o : Outcome) → result_answer (case_for o r q) s ≡ accepted (resulting o r.code (content_by r.command (payload_for o r.command) q))
+  pub case_content : (o : Outcome) → read_content (case_for o r q) s ≡ resulting o r.code (content_by r.command (payload_for o r.command) q)
   case_content done = row_content
-  case_content waiting = ap accepted (as_part waiting)
-  case_content failed = ap accepted (as_part failed)
+  case_content waiting = as_part waiting
+  case_content failed = as_part failed
 
 -- ---- the reader
 -- a packet that none of 18, 19 and 23 refuses
-result_content_lem : (p : List ℕ) → first_broken (result_rules p) ≡ 0 → result_answer (outcome_of (result_at p) (drop 7 p)) p ≡ accepted (result_content p)
+result_content_lem : (p : List ℕ) → first_broken (result_rules p) ≡ 0 → read_content (outcome_of (result_at p) (drop 7 p)) p ≡ result_content p
 result_content_lem p e =
     let h = held (result_rules p) (tt, (tt, (tt, tt))) e in
     let l = eqb-true (length p) (7 + num 2 5 p) (not-false _ h.0) in
     case_content (result_at p) p (drop 7 p) (part_end p 7 (omega arith)) (code_means (num 2 3 p))
 
 -- the reader's promise, from the equation by cases
-pub reads_result : (p : List ℕ) {r : ResultRead} → r ≡ read_result p → ReadsResult p r
+pub reads_result : (p : List ℕ) {r : Result ResultRead Refusal} → r ≡ read_result p → ReadsResult p r
 reads_result p e =
     record {
       content =
-          ap (λ (r : ResultRead). result_answer r p) e
-          ∙ judge_map (λ (r : ResultRead). result_answer r p) Refused refused (result_rules p) (outcome_of (result_at p) (drop 7 p)) (accepted (result_content p))
-          (λ n. refl) (result_content_lem p);
+          ap (λ (r : Result ResultRead Refusal). result_answer r p) e
+          ∙ judge_listed (λ (r : Result ResultRead Refusal). result_answer r p) refused (result_rules p) (Ok (outcome_of (result_at p) (drop 7 p)))
+          (accepted (result_content p)) (tt, (tt, (tt, tt))) (λ r. refl) (λ h. ap accepted (result_content_lem p h));
       answer = e;
     }
 
 -- masks and an uptime come of no packet but a done one of their command, which holds just these numbers
-pub presence_only : (p : List ℕ) (r : PresenceResult) → read_result p ≡ Presence r → result_content p ≡ resulting done r.code (content 72 (mask_values r.masks) [])
+pub presence_only : (p : List ℕ) (r : PresenceResult) → read_result p ≡ Ok (Presence r)
+    → result_content p ≡ resulting done r.code (content 72 (mask_values r.masks) [])
 presence_only p r e = accepted_is (first_broken (result_rules p)) (sym (reads_result p (sym e)).content)
 
-pub uptime_only : (p : List ℕ) (r : UptimeResult) → read_result p ≡ Uptime r → result_content p ≡ resulting done r.code (content 80 (r.uptime.0 ∷ []) [])
+pub uptime_only : (p : List ℕ) (r : UptimeResult) → read_result p ≡ Ok (Uptime r) → result_content p ≡ resulting done r.code (content 80 (r.uptime.0 ∷ []) [])
 uptime_only p r e = accepted_is (first_broken (result_rules p)) (sym (reads_result p (sym e)).content)

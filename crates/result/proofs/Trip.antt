@@ -12,12 +12,13 @@ use Rattle.wire.specs.Content.{accepted, content}
 use Rattle.wire.specs.Parts.{part, part_of}
 use Rattle.wire.specs.Fields.{wrong_size, past, body_of, unreadable}
 use Rattle.wire.specs.Writing.{Writes}
-use Rattle.wire.specs.declared.Written.{Written}
-use Rattle.wire.specs.declared.Written.TheVariants.{Wrote}
+use Rattle.std.specs.Prelude.{Result}
+use Rattle.wire.specs.declared.refusals.Refusal.{Refusal}
+use Rattle.std.specs.Prelude.{Ok}
 use Rattle.wire.proofs.Choice.{or_fails}
 use Rattle.wire.proofs.Fields.{Readable, readable, part_length, part_end}
 use Rattle.wire.proofs.Writers.{wrote_back}
-use Rattle.result.specs.Result.{Outcome, done, code_means, is_done, row_of, payload_for, payload_of, mask_values, resulting, result_answer, case_for, outcome_of, result_at, read_result}
+use Rattle.result.specs.Result.{Outcome, done, code_means, is_done, row_of, payload_for, payload_of, mask_values, resulting, read_content, result_answer, case_for, outcome_of, result_at, read_result}
 use Rattle.result.specs.Image.{result_bytes, result_bad, result_image, fields_bad, fields_image, presence_bad, presence_image, uptime_bad, uptime_image, moved, ReadsBack, FieldsBack, PresenceBack, UptimeBack}
 use Rattle.result.proofs.Meaning.{is_done_lem, case_content}
 use Rattle.result.specs.declared.ResultPacket.{ResultPacket}
@@ -39,11 +40,11 @@ module _ (n code : ℕ) (q : List ℕ) where
       let e3 : length p - 7 ≡ length q = omega arith in
       rw (e1, e2, e3)
 
-  answered : wrong_size (payload_of n code).size q ≡ false → read_result (result_bytes n code q) ≡ outcome_of placed q
+  answered : wrong_size (payload_of n code).size q ≡ false → read_result (result_bytes n code q) ≡ Ok (outcome_of placed q)
   answered h =
       let p = result_bytes n code q in
       let k : wrong_size (payload_of (num 2 1 p) (num 2 3 p)).size q ≡ false = ap (λ (r : ResultPacket). wrong_size (payload_of r.command r.code).size q) at ∙ h in
-      rw (eq-eqb (length p) (7 + num 2 5 p) (omega arith), k) (ap (λ (r : ResultPacket). outcome_of r q) at)
+      rw (eq-eqb (length p) (7 + num 2 5 p) (omega arith), k) (ap (λ (r : ResultPacket). Ok (outcome_of r q)) at)
 
 -- ---- a payload that is a part of bytes
 module _ (r : ResultPacket) (s : List ℕ) (good : result_bad r s ≡ false) where
@@ -53,11 +54,11 @@ module _ (r : ResultPacket) (s : List ℕ) (good : result_bad r s ≡ false) whe
       let q = part_of s r.payload in
       let o = or_fails (past s r.payload || wrong_size (payload_of r.command r.code).size q) (ltb 65535 (length q)) good in
       let o2 = or_fails (past s r.payload) (wrong_size (payload_of r.command r.code).size q) o.0 in
-      let e = answered r.command r.code q o2.1 ∙ ap (λ (l : ℕ). outcome_of (record { command = r.command; code = r.code; payload = part 7 l }) q) (part_length s r.payload o2.0) in
+      let e = answered r.command r.code q o2.1 ∙ ap (λ (l : ℕ). Ok (outcome_of (record { command = r.command; code = r.code; payload = part 7 l }) q)) (part_length s r.payload o2.0) in
       record {
         content =
-            ap (λ (x : ResultRead). result_answer x p) e
-            ∙ case_content (moved r) p q (ap (λ (l : ℕ). part_of p (part 7 l)) (omega (arith, part_length s r.payload o2.0)) ∙ part_end p 7 (omega arith)) (code_means r.code);
+            ap (λ (x : Result ResultRead Refusal). result_answer x p) e
+            ∙ ap accepted (case_content (moved r) p q (ap (λ (l : ℕ). part_of p (part 7 l)) (omega (arith, part_length s r.payload o2.0)) ∙ part_end p 7 (omega arith)) (code_means r.code));
         answer = e;
       }
 
@@ -75,16 +76,20 @@ module _ (n code : ℕ) (vs : List ℕ) (good : fields_bad n code vs ≡ false) 
   fits : Readable (payload_for done n) vs [] [] []
   fits = readable (payload_for done n) vs [] [] [] judged.1
 
-  row_back : read_result (fields_image n code vs) ≡ (row_of n).make (placed n code body) vs
+  row_back : read_result (fields_image n code vs) ≡ Ok ((row_of n).make (placed n code body) vs)
   row_back =
       answered n code body (ap (λ (o : Outcome). wrong_size (payload_for o n).size body) means ∙ fits.sized)
-      ∙ ap (λ (o : Outcome). case_for o (placed n code body) body) means
-      ∙ ap ((row_of n).make (placed n code body)) fits.values
+      ∙ ap (λ (o : Outcome). Ok (case_for o (placed n code body) body)) means
+      ∙ ap (λ (v : List ℕ). Ok ((row_of n).make (placed n code body) v)) fits.values
 
   -- the answer that the row makes
   fields_back : {given : ResultRead} → (row_of n).make (placed n code body) vs ≡ given
-      → result_answer given (fields_image n code vs) ≡ accepted (resulting done code (content n vs [])) → FieldsBack n code vs given (fields_image n code vs)
-  fields_back e c = record { content = ap (λ (x : ResultRead). result_answer x (fields_image n code vs)) (row_back ∙ e) ∙ c; answer = row_back ∙ e }
+      → read_content given (fields_image n code vs) ≡ resulting done code (content n vs []) → FieldsBack n code vs given (fields_image n code vs)
+  fields_back e c =
+      record {
+        content = ap (λ (x : Result ResultRead Refusal). result_answer x (fields_image n code vs)) (row_back ∙ ap Ok e) ∙ ap accepted c;
+        answer = row_back ∙ ap Ok e;
+      }
 
 pub presence_back : (r : PresenceResult) → presence_bad r ≡ false → PresenceBack r (presence_image r)
 presence_back r good = fields_back 72 r.code (mask_values r.masks) good refl refl
@@ -93,12 +98,12 @@ pub uptime_back : (r : UptimeResult) → uptime_bad r ≡ false → UptimeBack r
 uptime_back r good = fields_back 80 r.code (r.uptime.0 ∷ []) good refl refl
 
 -- ---- what stands at the front of the room, when a writer answers that it wrote
-module _ (n : ℕ) {room : List ℕ} {answer : Written} {after : List ℕ} where
-  pub wrote_reads : (r : ResultPacket) (s : List ℕ) → Writes (result_bad r s) (result_image r s) room answer after → answer ≡ Wrote n → ReadsBack r s (take n after)
+module _ (n : ℕ) {room : List ℕ} {answer : Result ℕ Refusal} {after : List ℕ} where
+  pub wrote_reads : (r : ResultPacket) (s : List ℕ) → Writes (result_bad r s) (result_image r s) room answer after → answer ≡ Ok n → ReadsBack r s (take n after)
   wrote_reads r s w e = wrote_back (ReadsBack r s) (reads_back r s) n w e
 
-  pub wrote_presence : (r : PresenceResult) → Writes (presence_bad r) (presence_image r) room answer after → answer ≡ Wrote n → PresenceBack r (take n after)
+  pub wrote_presence : (r : PresenceResult) → Writes (presence_bad r) (presence_image r) room answer after → answer ≡ Ok n → PresenceBack r (take n after)
   wrote_presence r w e = wrote_back (PresenceBack r) (presence_back r) n w e
 
-  pub wrote_uptime : (r : UptimeResult) → Writes (uptime_bad r) (uptime_image r) room answer after → answer ≡ Wrote n → UptimeBack r (take n after)
+  pub wrote_uptime : (r : UptimeResult) → Writes (uptime_bad r) (uptime_image r) room answer after → answer ≡ Ok n → UptimeBack r (take n after)
   wrote_uptime r w e = wrote_back (UptimeBack r) (uptime_back r) n w e

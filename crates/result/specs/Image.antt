@@ -1,5 +1,5 @@
 -- What the writers of result packets write, what they refuse, and that it is read back; proofs/Trip.antt proves the last.
-use Rattle.std.specs.Prelude.{ℕ, ◌≡◌, Bool, not, ◌||◌, List, [], ◌∷◌, ◌++◌, length, ltb}
+use Rattle.std.specs.Prelude.{ℕ, ◌≡◌, Bool, not, ◌||◌, List, [], ◌∷◌, ◌++◌, length, ltb, Ok}
 use Rattle.wire.specs.Numbers.{le}
 use Rattle.wire.specs.Content.{accepted, content}
 use Rattle.wire.specs.Parts.{part, part_of}
@@ -53,13 +53,13 @@ moved r = record { command = r.command; code = r.code; payload = part 7 r.payloa
 pub record ReadsBack (r : ResultPacket) (s p : List ℕ) : Type 0 where
   pub content : result_answer (read_result p) p ≡ accepted (payload_content r.command r.code (part_of s r.payload))
   -- the answer by the cases of the enum
-  pub answer : read_result p ≡ outcome_of (moved r) (part_of s r.payload)
+  pub answer : read_result p ≡ Ok (outcome_of (moved r) (part_of s r.payload))
 
 -- fields: the command's number, the code and each number, and the answer that was given
 pub record FieldsBack (n code : ℕ) (vs : List ℕ) (given : ResultRead) (p : List ℕ) : Type 0 where
   pub content : result_answer (read_result p) p ≡ accepted (resulting done code (content n vs []))
   -- the answer by the cases of the enum
-  pub answer : read_result p ≡ given
+  pub answer : read_result p ≡ Ok given
 
 abbrev pub PresenceBack : PresenceResult → List ℕ → Type 0
 PresenceBack r p = FieldsBack 72 r.code (mask_values r.masks) (Presence r) p

@@ -1,16 +1,18 @@
 -- Result packets ('Messages', last paragraph, and document 02 §7): protocol, command type (2), result code (2), size (2), payload of exactly that size.
-use Rattle.std.specs.Prelude.{ℕ, ◌+◌, ◌-◌, ◌≡◌, Bool, true, false, not, ◌||◌, List, [], ◌∷◌, length, get_or, drop, eqb}
+use Rattle.std.specs.Prelude.{ℕ, ◌+◌, ◌-◌, ◌≡◌, Bool, true, false, not, ◌||◌, List, [], ◌∷◌, length, get_or, drop, eqb, Result, Ok, Err}
 use Rattle.wire.specs.Choice.{pick}
 use Rattle.wire.specs.Numbers.{num}
 use Rattle.wire.specs.Lookup.{lookup}
 use Rattle.wire.specs.Rules.{Rule, ◌when◌, judge}
+use Rattle.wire.specs.Refusals.{number_of, refusing}
+use Rattle.wire.specs.declared.refusals.Refusal.{Refusal}
 use Rattle.wire.specs.Content.{Judged, accepted, refused, Content, content}
 use Rattle.wire.specs.Parts.{part, part_of}
 use Rattle.wire.specs.Fields.{Field, Layout, layout, exactly, at_least, any, nothing, free, wrong_size, values_at, content_by}
 use Rattle.result.specs.declared.RoomMasks.{RoomMasks}
 use Rattle.result.specs.declared.ResultPacket.{ResultPacket}
 use Rattle.result.specs.declared.ResultRead.{ResultRead}
-use Rattle.result.specs.declared.ResultRead.TheVariants.{Done, Presence, Uptime, Waiting, Failed, Refused}
+use Rattle.result.specs.declared.ResultRead.TheVariants.{Done, Presence, Uptime, Waiting, Failed}
 
 -- ---- what came of a command
 pub data Outcome : Type 0 where
@@ -111,14 +113,18 @@ result_content p = payload_content (num 2 1 p) (num 2 3 p) (drop 7 p)
 abbrev pub part_content : Outcome → ResultPacket → List ℕ → ResultContent
 part_content o r s = resulting o r.code (content r.command [] (part_of s r.payload ∷ []))
 
+-- what a result that was read holds
+abbrev pub read_content : ResultRead → List ℕ → ResultContent
+read_content (Done r) p = part_content done r p
+read_content (Presence r) p = resulting done r.code (content 72 (mask_values r.masks) [])
+read_content (Uptime r) p = resulting done r.code (content 80 (r.uptime.0 ∷ []) [])
+read_content (Waiting r) p = part_content waiting r p
+read_content (Failed r) p = part_content failed r p
+
 -- what an answer holds: accepted with a content, or refused with a number
-abbrev pub result_answer : ResultRead → List ℕ → Judged ResultContent ℕ
-result_answer (Done r) p = accepted (part_content done r p)
-result_answer (Presence r) p = accepted (resulting done r.code (content 72 (mask_values r.masks) []))
-result_answer (Uptime r) p = accepted (resulting done r.code (content 80 (r.uptime.0 ∷ []) []))
-result_answer (Waiting r) p = accepted (part_content waiting r p)
-result_answer (Failed r) p = accepted (part_content failed r p)
-result_answer (Refused n) p = refused n
+abbrev pub result_answer : Result ResultRead Refusal → List ℕ → Judged ResultContent ℕ
+result_answer (Ok r) p = accepted (read_content r p)
+result_answer (Err r) p = refused (number_of r)
 
 -- a row's answer, of a result and its payload's bytes
 abbrev pub made : Row → ResultPacket → List ℕ → ResultRead
@@ -138,16 +144,16 @@ outcome_of r q = case_for (code_means r.code) r q
 abbrev pub result_at : List ℕ → ResultPacket
 result_at p = record { command = num 2 1 p; code = num 2 3 p; payload = part 7 (length p - 7) }
 
-abbrev pub read_result : List ℕ → ResultRead
-read_result p = judge Refused (result_rules p) (outcome_of (result_at p) (drop 7 p))
+abbrev pub read_result : List ℕ → Result ResultRead Refusal
+read_result p = judge refusing (result_rules p) (Ok (outcome_of (result_at p) (drop 7 p)))
 
 -- the reader's promise
-pub record ReadsResult (p : List ℕ) (r : ResultRead) : Type 0 where
+pub record ReadsResult (p : List ℕ) (r : Result ResultRead Refusal) : Type 0 where
   pub content : result_answer r p ≡ judge refused (result_rules p) (accepted (result_content p))
   -- the answer by the cases of the enum
   pub answer : r ≡ read_result p
 
 -- ---- what the reader's own function gives
 -- a result and its payload's bytes, whatever its size field
-abbrev pub read_payload : ResultPacket → List ℕ → ResultRead
-read_payload r q = judge Refused (payload_rules r.command r.code q) (outcome_of r q)
+abbrev pub read_payload : ResultPacket → List ℕ → Result ResultRead Refusal
+read_payload r q = judge refusing (payload_rules r.command r.code q) (Ok (outcome_of r q))

@@ -9,7 +9,7 @@ ghost use Rattle.result.specs.Result.{done, case_for, outcome_of, read_payload, 
 ghost use Rattle.result.specs.Image.{result_bad, result_image, presence_bad, presence_image, uptime_bad, uptime_image};
 
 use units::Seconds;
-use wire::{Part, Written};
+use wire::{Part, Refusal};
 
 // The command that is answered, its result code, and the payload as a part of the packet, or of the bytes lent to the writer.
 #[derive(Clone, Copy)]
@@ -54,7 +54,6 @@ pub enum ResultRead {
     Uptime(UptimeResult),
     Waiting(ResultPacket),
     Failed(ResultPacket),
-    Refused(u8),
 }
 
 // A done result: its values where the table has fields for the command.
@@ -84,27 +83,27 @@ fn outcome_of(res: ResultPacket, q: &[u8]) -> ResultRead
 }
 
 // A result and its payload's bytes: 23, or what came of the command.
-fn read_payload(res: ResultPacket, q: &[u8]) -> ResultRead
+fn read_payload(res: ResultPacket, q: &[u8]) -> Result<ResultRead, Refusal>
     ensures { result ≡ read_payload res q.now }
 {
     if payloads::wrong_size(res.command, res.code, q) {
-        return ResultRead::Refused(23);
+        return Err(Refusal::BadCommandLength);
     }
-    outcome_of(res, q)
+    Ok(outcome_of(res, q))
 }
 
 // A result packet: 18, 19, 23, or what came of the command.
-pub fn read_result(packet: &[u8]) -> ResultRead
+pub fn read_result(packet: &[u8]) -> Result<ResultRead, Refusal>
     ensures { ReadsResult packet.now result }
 {
     if packet.len() < 7 {
-        return ResultRead::Refused(18);
+        return Err(Refusal::BadPacketLength);
     }
     if packet.len() != 7 + (wire::read_u16(packet, 5) as usize) {
-        return ResultRead::Refused(18);
+        return Err(Refusal::BadPacketLength);
     }
     if packet[0] != 5 {
-        return ResultRead::Refused(19);
+        return Err(Refusal::UnknownProtocol);
     }
     read_payload(
         ResultPacket {
@@ -120,22 +119,22 @@ pub fn read_result(packet: &[u8]) -> ResultRead
 }
 
 // A result's packet, its payload a part of `bytes`.
-pub fn write_result(res: ResultPacket, bytes: &[u8], out: &mut [u8]) -> Written
+pub fn write_result(res: ResultPacket, bytes: &[u8], out: &mut [u8]) -> Result<usize, Refusal>
     ensures { Writes (result_bad res bytes.now) (result_image res bytes.now) out.old result out.new }
 {
     let payload = res.payload;
     if wire::layouts::runs_past(bytes, payload) {
-        return Written::Refused(17);
+        return Err(Refusal::BadMessageData);
     }
     let q = wire::part_of(bytes, payload);
     if payloads::wrong_size(res.command, res.code, q) {
-        return Written::Refused(17);
+        return Err(Refusal::BadMessageData);
     }
     payloads::packet(res.command, res.code, q, out)
 }
 
 // A done result of get presence: 17 for a code that does not mean done.
-pub fn write_presence(res: PresenceResult, out: &mut [u8]) -> Written
+pub fn write_presence(res: PresenceResult, out: &mut [u8]) -> Result<usize, Refusal>
     ensures { Writes (presence_bad res) (presence_image res) out.old result out.new }
 {
     let m = res.masks;
@@ -149,20 +148,20 @@ pub fn write_presence(res: PresenceResult, out: &mut [u8]) -> Written
             out,
         );
     }
-    Written::Refused(17)
+    Err(Refusal::BadMessageData)
 }
 
 // A done result of get uptime: 17 for a code that does not mean done, and for more seconds than four bytes hold.
-pub fn write_uptime(res: UptimeResult, out: &mut [u8]) -> Written
+pub fn write_uptime(res: UptimeResult, out: &mut [u8]) -> Result<usize, Refusal>
     ensures { Writes (uptime_bad res) (uptime_image res) out.old result out.new }
 {
     let uptime = res.uptime;
     if 4294967295 < uptime.0 {
-        return Written::Refused(17);
+        return Err(Refusal::BadMessageData);
     }
     if payloads::means_done(res.code) {
         let fields = wire::u32_bytes(uptime.0 as u32);
         return payloads::packet(80, res.code, &fields, out);
     }
-    Written::Refused(17)
+    Err(Refusal::BadMessageData)
 }

@@ -8,7 +8,7 @@ ghost use Rattle.result.specs.Image.{result_bytes};
 
 use crate::{PresenceResult, ResultPacket, ResultRead, RoomMasks, UptimeResult};
 use units::Seconds;
-use wire::Written;
+use wire::Refusal;
 
 // Whether a code means done.
 pub fn means_done(code: u16) -> bool
@@ -92,11 +92,11 @@ pub fn two_masks(a: u64, b: u64) -> [u8; 16]
 }
 
 // A packet around a payload: 17 for one longer than the size field counts.
-pub fn packet(command: u16, code: u16, q: &[u8], out: &mut [u8]) -> Written
+pub fn packet(command: u16, code: u16, q: &[u8], out: &mut [u8]) -> Result<usize, Refusal>
     ensures { Writes (ltb 65535 (length q.now)) (result_bytes command code q.now) out.old result out.new }
 {
     if 65535 < q.len() {
-        return Written::Refused(17);
+        return Err(Refusal::BadMessageData);
     }
     wire::write3(&head(command, code, q.len() as u16), &q[0..0], q, out)
 }
