@@ -16,7 +16,7 @@ use Rattle.wire.proofs.Content.{same_content}
 use Rattle.wire.proofs.Fields.{part_end}
 use Rattle.wire.proofs.Lists.{part_in}
 use Rattle.wire.proofs.Lookup.{lookup_all, ◌also◌}
-use Rattle.wire.proofs.Rules.{judge_map}
+use Rattle.wire.proofs.Listed.{judge_listed}
 use Rattle.access.specs.declared.Mode.{Mode}
 use Rattle.control.specs.Accepts.{Accepts}
 use Rattle.control.proofs.Meaning.{none_behind, row_content}
@@ -26,9 +26,12 @@ use Rattle.message.specs.Reading.{message_rules, message_of, message_at, read_me
 use Rattle.message.specs.Holds.{table_bytes, MessageHolds}
 use Rattle.message.specs.Accepts.{AcceptsBody}
 use Rattle.message.proofs.Accepts.{message_accepts}
+use Rattle.message.proofs.Reading.{body_listed}
 use Rattle.message.specs.declared.Form.{Form}
-use Rattle.message.specs.declared.MessageRead.{MessageRead}
-use Rattle.message.specs.declared.MessageRead.TheVariants.{Accepted, Refused}
+use Rattle.std.specs.Prelude.{Result, Ok}
+use Rattle.wire.specs.declared.refusals.Refusal.{Refusal}
+use Rattle.message.specs.declared.Message.{Message}
+use Rattle.wire.specs.Refusals.{refusing}
 
 -- what a row makes of data
 record BodyHolds (n : ℕ) (r : Row) (d : List ℕ) : Type 0 where
@@ -75,12 +78,12 @@ message_holds f required mode p e =
     record { content = t.content; whole = t.whole }
 
 -- the reader's promise, from the equation by cases
-pub reads_message : (p : List ℕ) (f : Form) (required : Bool) (mode : Mode) {r : MessageRead} → r ≡ read_message p f required mode → ReadsMessage p f required mode r
+pub reads_message : (p : List ℕ) (f : Form) (required : Bool) (mode : Mode) {r : Result Message Refusal} → r ≡ read_message p f required mode → ReadsMessage p f required mode r
 reads_message p f required mode e =
     record {
       content =
-          ap (λ (r : MessageRead). message_answer r p) e
-          ∙ judge_map (λ (r : MessageRead). message_answer r p) Refused refused (message_rules f required mode p) (Accepted (message_at p)) (accepted (table_content p))
-          (λ n. refl) (λ h. ap accepted (message_holds f required mode p h).content);
+          ap (λ (r : Result Message Refusal). message_answer r p) e
+          ∙ judge_listed (λ (r : Result Message Refusal). message_answer r p) refused (message_rules f required mode p) (Ok (message_at p))
+          (accepted (table_content p)) (tt, (tt, (tt, body_listed (type_of (num 2 0 p)).body f mode (drop 2 p)))) (λ r. refl) (λ h. ap accepted (message_holds f required mode p h).content);
       answer = e;
     }

@@ -1,5 +1,5 @@
 -- What reading a UART message gives: data type (2), data.
-use Rattle.std.specs.Prelude.{ℕ, ◌≡◌, Bool, not, ◌||◌, List, [], ◌∷◌, ◌++◌, length, drop, ltb}
+use Rattle.std.specs.Prelude.{ℕ, ◌≡◌, Bool, not, ◌||◌, List, [], ◌∷◌, ◌++◌, length, drop, ltb, Result, Ok, Err}
 use Rattle.wire.specs.Numbers.{num}
 use Rattle.wire.specs.Rules.{Rule, ◌when◌, judge}
 use Rattle.wire.specs.Content.{Judged, accepted, refused, Content, content}
@@ -12,8 +12,8 @@ use Rattle.message.specs.declared.Form.{Form}
 use Rattle.message.specs.declared.forms.Allowed.{Allowed}
 use Rattle.message.specs.declared.Message.{Message}
 use Rattle.message.specs.declared.Message.TheVariants.{Control}
-use Rattle.message.specs.declared.MessageRead.{MessageRead}
-use Rattle.message.specs.declared.MessageRead.TheVariants.{Accepted, Refused}
+use Rattle.wire.specs.declared.refusals.Refusal.{Refusal}
+use Rattle.wire.specs.Refusals.{number_of, refusing}
 
 -- ---- the rules, in order
 -- 15: plain where encryption is required; 16: encrypted where plain only
@@ -41,8 +41,8 @@ message_of packet d = Control (command_at d)
 abbrev pub message_at : List ℕ → Message
 message_at p = message_of (type_of (num 2 0 p)).body (drop 2 p)
 
-abbrev pub read_message : List ℕ → Form → Bool → Mode → MessageRead
-read_message p f required mode = judge Refused (message_rules f required mode p) (Accepted (message_at p))
+abbrev pub read_message : List ℕ → Form → Bool → Mode → Result Message Refusal
+read_message p f required mode = judge refusing (message_rules f required mode p) (Ok (message_at p))
 
 -- what the tables read from a message: its data type, each number in its fields, a control packet's command before those, and each part behind them
 abbrev pub under : ℕ → Content → Content
@@ -56,20 +56,20 @@ abbrev pub table_content : List ℕ → Content
 table_content p = body_content (num 2 0 p) (type_of (num 2 0 p)).body (drop 2 p)
 
 -- what an answer gives of the message: accepted with a content, or refused with a number
-abbrev pub message_answer : MessageRead → List ℕ → Judged Content ℕ
-message_answer (Accepted m) p = accepted (message_content m (drop (parts_at m) (drop 2 p)))
-message_answer (Refused n) p = refused n
+abbrev pub message_answer : Result Message Refusal → List ℕ → Judged Content ℕ
+message_answer (Ok m) p = accepted (message_content m (drop (parts_at m) (drop 2 p)))
+message_answer (Err r) p = refused (number_of r)
 
 -- the reader's promise
-pub record ReadsMessage (p : List ℕ) (f : Form) (required : Bool) (mode : Mode) (r : MessageRead) : Type 0 where
+pub record ReadsMessage (p : List ℕ) (f : Form) (required : Bool) (mode : Mode) (r : Result Message Refusal) : Type 0 where
   pub content : message_answer r p ≡ judge refused (message_rules f required mode p) (accepted (table_content p))
   -- the answer by the cases of the enum
   pub answer : r ≡ read_message p f required mode
 
 -- ---- what the reader's own functions give
 -- data under a row, and data alone
-abbrev pub read_type : Row → List ℕ → Form → Bool → Mode → MessageRead
-read_type r d f required mode = judge Refused ((14 when not r.listed) ∷ type_rules r f required mode d) (Accepted (message_of r.body d))
+abbrev pub read_type : Row → List ℕ → Form → Bool → Mode → Result Message Refusal
+read_type r d f required mode = judge refusing ((14 when not r.listed) ∷ type_rules r f required mode d) (Ok (message_of r.body d))
 
-abbrev pub read_body : Body → List ℕ → Form → Mode → MessageRead
-read_body b d f mode = judge Refused (body_rules b f mode d) (Accepted (message_of b d))
+abbrev pub read_body : Body → List ℕ → Form → Mode → Result Message Refusal
+read_body b d f mode = judge refusing (body_rules b f mode d) (Ok (message_of b d))

@@ -6,93 +6,90 @@ ghost use Rattle.message.specs.Table.{type_of, packet};
 ghost use Rattle.message.specs.Reading.{read_body};
 
 use crate::forms::access_of;
-use crate::{Form, HubReplyFields, Message, MessageRead, Nonce, SessionNonceFields, StatusFields};
+use crate::{Form, HubReplyFields, Message, Nonce, SessionNonceFields, StatusFields};
 use access::Mode;
-use control::ControlRead;
 use units::{Minutes, Seconds};
-use wire::Part;
+use wire::{Part, Refusal};
 
-pub fn hello(d: &[u8]) -> MessageRead
+pub fn hello(d: &[u8]) -> Result<Message, Refusal>
     ensures { (f : FormOf) (m : ModeOf) → result ≡ read_body (type_of 0).body d.now f m }
 {
     if d.len() != 1 {
-        return MessageRead::Refused(17);
+        return Err(Refusal::BadMessageData);
     }
     let flags = d[0];
     if 15 < flags {
-        return MessageRead::Refused(17);
+        return Err(Refusal::BadMessageData);
     }
-    MessageRead::Accepted(Message::Hello(flags))
+    Ok(Message::Hello(flags))
 }
 
-pub fn session_nonce(d: &[u8]) -> MessageRead
+pub fn session_nonce(d: &[u8]) -> Result<Message, Refusal>
     ensures { (f : FormOf) (m : ModeOf) → result ≡ read_body (type_of 1).body d.now f m }
 {
     if d.len() != 6 {
-        return MessageRead::Refused(17);
+        return Err(Refusal::BadMessageData);
     }
-    MessageRead::Accepted(Message::SessionNonce(SessionNonceFields {
+    Ok(Message::SessionNonce(SessionNonceFields {
         timeout: Minutes(wire::byte_at(d, 0) as u64),
         nonce: Nonce(d[1], d[2], d[3], d[4], d[5]),
     }))
 }
 
-pub fn heartbeat(d: &[u8]) -> MessageRead
+pub fn heartbeat(d: &[u8]) -> Result<Message, Refusal>
     ensures { (f : FormOf) (m : ModeOf) → result ≡ read_body (type_of 2).body d.now f m }
 {
     if d.len() != 2 {
-        return MessageRead::Refused(17);
+        return Err(Refusal::BadMessageData);
     }
-    MessageRead::Accepted(Message::Heartbeat(Seconds(wire::read_u16(d, 0) as u64)))
+    Ok(Message::Heartbeat(Seconds(wire::read_u16(d, 0) as u64)))
 }
 
-pub fn status(d: &[u8]) -> MessageRead
+pub fn status(d: &[u8]) -> Result<Message, Refusal>
     ensures { (f : FormOf) (m : ModeOf) → result ≡ read_body (type_of 3).body d.now f m }
 {
     if d.len() != 11 {
-        return MessageRead::Refused(17);
+        return Err(Refusal::BadMessageData);
     }
     let kind = d[0];
     if 1 < kind {
-        return MessageRead::Refused(17);
+        return Err(Refusal::BadMessageData);
     }
     let flags = d[1];
     if 15 < flags {
-        return MessageRead::Refused(17);
+        return Err(Refusal::BadMessageData);
     }
-    MessageRead::Accepted(Message::Status(StatusFields {
+    Ok(Message::Status(StatusFields {
         kind,
         flags,
         data: Part { start: 2, len: 9 },
     }))
 }
 
-pub fn get_mac(d: &[u8]) -> MessageRead
+pub fn get_mac(d: &[u8]) -> Result<Message, Refusal>
     ensures { (f : FormOf) (m : ModeOf) → result ≡ read_body (type_of 4).body d.now f m }
 {
     if d.len() != 0 {
-        return MessageRead::Refused(17);
+        return Err(Refusal::BadMessageData);
     }
-    MessageRead::Accepted(Message::GetMac)
+    Ok(Message::GetMac)
 }
 
 // A control packet has its own rules, 18 to 24.
-pub fn control_packet(d: &[u8], form: Form, mode: Mode) -> MessageRead
+pub fn control_packet(d: &[u8], form: Form, mode: Mode) -> Result<Message, Refusal>
     ensures { result ≡ read_body packet d.now form mode }
 {
-    match control::read_control(d, mode, access_of(form)) {
-        ControlRead::Accepted(c) => MessageRead::Accepted(Message::Control(c)),
-        ControlRead::Refused(n) => MessageRead::Refused(n),
-    }
+    let command = control::read_control(d, mode, access_of(form))?;
+    Ok(Message::Control(command))
 }
 
-pub fn hub_reply(d: &[u8]) -> MessageRead
+pub fn hub_reply(d: &[u8]) -> Result<Message, Refusal>
     ensures { (f : FormOf) (m : ModeOf) → result ≡ read_body (type_of 11).body d.now f m }
 {
     if d.len() < 2 {
-        return MessageRead::Refused(17);
+        return Err(Refusal::BadMessageData);
     }
-    MessageRead::Accepted(Message::HubReply(HubReplyFields {
+    Ok(Message::HubReply(HubReplyFields {
         code: wire::read_u16(d, 0),
         data: Part {
             start: 2,

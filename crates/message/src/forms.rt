@@ -3,10 +3,11 @@ ghost use Rattle.std.specs.Prelude.{◌≡◌};
 ghost use Rattle.wire.specs.Rules.{judge};
 ghost use Rattle.message.specs.Table.{access_of};
 ghost use Rattle.message.specs.Reading.{form_rules};
-ghost use Rattle.message.specs.declared.MessageRead.TheVariants.{Refused};
+ghost use Rattle.wire.specs.Refusals.{refusing};
 
-use crate::{Form, MessageRead};
+use crate::{Form, Message};
 use access::{Access, Level};
+use wire::Refusal;
 
 #[derive(Clone, Copy)]
 pub enum Allowed {
@@ -26,19 +27,24 @@ pub fn access_of(form: Form) -> Access
 }
 
 // What was read of the data, if the form is allowed.
-pub fn in_form(allowed: Allowed, form: Form, required: bool, read: MessageRead) -> MessageRead
-    ensures { result ≡ judge Refused (form_rules allowed form required) read }
+pub fn in_form(
+    allowed: Allowed,
+    form: Form,
+    required: bool,
+    read: Result<Message, Refusal>,
+) -> Result<Message, Refusal>
+    ensures { result ≡ judge refusing (form_rules allowed form required) read }
 {
     match allowed {
         Allowed::PlainOnly => match form {
             Form::Plain => read,
-            Form::Encrypted => MessageRead::Refused(16),
+            Form::Encrypted => Err(Refusal::EncryptedRefused),
         },
         Allowed::Either => read,
         Allowed::EncryptedWhenRequired => match form {
             Form::Plain => {
                 if required {
-                    MessageRead::Refused(15)
+                    Err(Refusal::PlainRefused)
                 } else {
                     read
                 }

@@ -13,7 +13,7 @@ use crate::forms::{Allowed, in_form};
 use access::Mode;
 use control::Command;
 use units::{Minutes, Seconds};
-use wire::Part;
+use wire::{Part, Refusal};
 
 // How a message comes.
 #[derive(Clone, Copy)]
@@ -58,33 +58,27 @@ pub struct HubReplyFields {
     pub data: Part,
 }
 
-#[derive(Clone, Copy)]
-pub enum MessageRead {
-    Accepted(Message),
-    Refused(u8),
-}
-
 // Where in a message's data the bytes begin that its parts count from.
 pub fn parts_at(m: Message) -> usize
     ensures { result ≡ parts_at m }
 {
     match m {
-        Message::Hello(_) => 0,
-        Message::SessionNonce(_) => 0,
-        Message::Heartbeat(_) => 0,
-        Message::Status(_) => 0,
-        Message::GetMac => 0,
         Message::Control(_) => 5,
-        Message::HubReply(_) => 0,
+        _ => 0,
     }
 }
 
 // A message in its form, in a mode: 14 to 17, for a control packet 18 to 24, or the message.
-pub fn read_message(message: &[u8], form: Form, required: bool, mode: Mode) -> MessageRead
+pub fn read_message(
+    message: &[u8],
+    form: Form,
+    required: bool,
+    mode: Mode,
+) -> Result<Message, Refusal>
     ensures { ReadsMessage message.now form required mode result }
 {
     if message.len() < 2 {
-        return MessageRead::Refused(14);
+        return Err(Refusal::UnknownDataType);
     }
     read_type(
         wire::read_u16(message, 0),
@@ -96,7 +90,13 @@ pub fn read_message(message: &[u8], form: Form, required: bool, mode: Mode) -> M
 }
 
 // The table of data types: number, form, data.
-fn read_type(number: u16, d: &[u8], form: Form, required: bool, mode: Mode) -> MessageRead
+fn read_type(
+    number: u16,
+    d: &[u8],
+    form: Form,
+    required: bool,
+    mode: Mode,
+) -> Result<Message, Refusal>
     ensures { result ≡ read_type (type_of number) d.now form required mode }
 {
     match number {
@@ -112,6 +112,6 @@ fn read_type(number: u16, d: &[u8], form: Form, required: bool, mode: Mode) -> M
             bodies::control_packet(d, form, mode),
         ),
         11 => in_form(Allowed::Either, form, required, bodies::hub_reply(d)),
-        _ => MessageRead::Refused(14),
+        _ => Err(Refusal::UnknownDataType),
     }
 }

@@ -21,3 +21,8 @@ returns-in-4 c = let g = c.args in rw c.in-4.is (type_read (type_of 4) g.d.now g
 
 pub returns-in-11 : goal.returns-in-11
 returns-in-11 c = let g = c.args in rw c.in-11.is (type_read (type_of 11) g.d.now g.form g.required g.mode refl (c.hub_reply.ensures g.form g.mode) c.in_form-in-11.ensures)
+
+pub returns-in-10 : goal.returns-in-10
+returns-in-10 c =
+    let g = c.args in
+    rw c.in-10.is (type_read (type_of 10) g.d.now g.form g.required g.mode refl c.control_packet.ensures c.in_form-in-10.ensures)
