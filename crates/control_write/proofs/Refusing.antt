@@ -10,8 +10,9 @@ use borrow.Author.Tests.{lt-ltb, le-ltb}
 use Rattle.wire.specs.Numbers.{le}
 use Rattle.wire.specs.Fields.{any_past, unfit, wrong_size, wrong_fields, same_lengths, unreadable}
 use Rattle.wire.specs.Writing.{Stores, Writes, no_room}
-use Rattle.wire.specs.declared.Written.{Written}
-use Rattle.wire.specs.declared.Written.TheVariants.{Refused}
+use Rattle.std.specs.Prelude.{Result}
+use Rattle.wire.specs.declared.refusals.Refusal.{Refusal}
+use Rattle.wire.specs.Refusals.{refusing}
 use Rattle.wire.proofs.Fields.{unfit_drop, unreadable_past, unreadable_unfit, unreadable_fields, unreadable_size, unreadable_cut, not_unreadable}
 use Rattle.wire.proofs.Writers.{writes_bad, writes_good}
 use Rattle.control.specs.Command.{command_values, command_parts}
@@ -64,15 +65,15 @@ module _ (limit n : ℕ) (front fields a b room : List ℕ) where
   body_length = omega (arith, length-append fields (a ++ b), length-append a b)
 
   pub packet_over : 65535 < length fields + length a + length b
-      → Writes (ltb 65535 (length (fields ++ (a ++ b))) || ltb limit (length (fields ++ (a ++ b)))) (front ++ packet_image n (fields ++ (a ++ b))) room (Refused 17) room
+      → Writes (ltb 65535 (length (fields ++ (a ++ b))) || ltb limit (length (fields ++ (a ++ b)))) (front ++ packet_image n (fields ++ (a ++ b))) room (refusing 17) room
   packet_over h = writes_bad (rw (lt-ltb 65535 (length (fields ++ (a ++ b))) (omega (arith, body_length))))
 
   pub packet_limit : length fields + length a + length b ≤ 65535 → limit < length fields + length a + length b
-      → Writes (ltb 65535 (length (fields ++ (a ++ b))) || ltb limit (length (fields ++ (a ++ b)))) (front ++ packet_image n (fields ++ (a ++ b))) room (Refused 17) room
+      → Writes (ltb 65535 (length (fields ++ (a ++ b))) || ltb limit (length (fields ++ (a ++ b)))) (front ++ packet_image n (fields ++ (a ++ b))) room (refusing 17) room
   packet_limit h k =
       writes_bad (rw (le-ltb 65535 (length (fields ++ (a ++ b))) (omega (arith, body_length)), lt-ltb limit (length (fields ++ (a ++ b))) (omega (arith, body_length))))
 
-  pub packet_made : (size : ℕ) {answer : Written} {after : List ℕ} → size ≡ length fields + length a + length b → size ≤ 65535 → size ≤ limit
+  pub packet_made : (size : ℕ) {answer : Result ℕ Refusal} {after : List ℕ} → size ≡ length fields + length a + length b → size ≤ 65535 → size ≤ limit
       → Stores (no_room 0 (front ++ (le 1 5 ++ (le 2 n ++ (le 2 size ++ (fields ++ (a ++ b)))))) room ∷ []) 0
       (front ++ (le 1 5 ++ (le 2 n ++ (le 2 size ++ (fields ++ (a ++ b)))))) room answer after
       → Writes (ltb 65535 (length (fields ++ (a ++ b))) || ltb limit (length (fields ++ (a ++ b)))) (front ++ packet_image n (fields ++ (a ++ b))) room answer after

@@ -16,8 +16,9 @@ use Rattle.wire.specs.Rules.{first_broken, verdict}
 use Rattle.wire.specs.Parts.{part_of}
 use Rattle.wire.specs.Fields.{tail_parts, content_by, each_part, past, any_past, same_lengths, unreadable}
 use Rattle.wire.specs.Writing.{Writes}
-use Rattle.wire.specs.declared.Written.{Written}
-use Rattle.wire.specs.declared.Written.TheVariants.{Wrote}
+use Rattle.std.specs.Prelude.{Result}
+use Rattle.wire.specs.declared.refusals.Refusal.{Refusal}
+use Rattle.std.specs.Prelude.{Ok}
 use Rattle.wire.proofs.Choice.{and_holds, or_fails}
 use Rattle.wire.proofs.Content.{same_content}
 use Rattle.wire.proofs.Held.{held}
@@ -32,7 +33,7 @@ use Rattle.control.specs.Control.{mark_rules, control_rules, command_of, command
 use Rattle.control.specs.declared.TrackedDeviceFields.{TrackedDeviceFields}
 use Rattle.control.specs.declared.Command.{Command}
 use Rattle.control.specs.declared.Command.TheVariants.{Setup, FactoryReset, GetState, SetState, BootloaderVersion, UicrData, IbeaconConfig, Reset, GotoDfu, NoOperation, Disconnect, Switch, MultiSwitch, RegisterTrackedDevice, TrackedDeviceHeartbeat, GetPresence, GetUptime}
-use Rattle.control.specs.declared.ControlRead.TheVariants.{Accepted, Refused}
+use Rattle.wire.specs.Refusals.{refusing}
 use Rattle.control.specs.Accepts.{Permits, Accepts}
 use Rattle.control.proofs.Reading.{control_clear}
 use Rattle.control.proofs.Meaning.{packet_content}
@@ -118,7 +119,7 @@ module _ (c : Command) (s : List ℕ) (m : Mode) (a : Access) (good : command_ba
             packet_content p m a unbroken
             ∙ ap (λ (k : ℕ). content_by k (row_of k).payload (payload_image c s)) (number_back (command_number c) (payload_image c s))
             ∙ same_content refl made.values (ap (tail_parts l.tail) made.behind ∙ parts_apart c s made.within made.alike);
-        answer = ap (λ (n : ℕ). verdict Refused n (Accepted (command_at p))) unbroken;
+        answer = ap (λ (n : ℕ). verdict refusing n (Ok (command_at p))) unbroken;
       }
 
   -- the command that is read is the one that its row makes of the written numbers
@@ -129,14 +130,14 @@ module _ (c : Command) (s : List ℕ) (m : Mode) (a : Access) (good : command_ba
 
 -- a tracked device is read as it was given, its offset signed
 pub device_back : (f : TrackedDeviceFields) (s : List ℕ) (m : Mode) (a : Access) → SFits w8 f.offset → command_bad (RegisterTrackedDevice f) s ≡ false
-    → first_broken (mark_rules AMB m a) ≡ 0 → read_control (control_image (RegisterTrackedDevice f) s) m a ≡ Accepted (RegisterTrackedDevice f)
+    → first_broken (mark_rules AMB m a) ≡ 0 → read_control (control_image (RegisterTrackedDevice f) s) m a ≡ Ok (RegisterTrackedDevice f)
 device_back f s m a fits good may =
     let c = RegisterTrackedDevice f in
-    (reads_back c s m a good may).answer ∙ ap Accepted (reread_is c s m a good may)
-    ∙ ap (λ (z : ℤ). Accepted (RegisterTrackedDevice (record { device = f.device; location = f.location; profile = f.profile; offset = z; flags = f.flags; token = f.token; ttl = f.ttl }))) (signed_unsigned f.offset fits)
+    (reads_back c s m a good may).answer ∙ ap Ok (reread_is c s m a good may)
+    ∙ ap (λ (z : ℤ). Ok (RegisterTrackedDevice (record { device = f.device; location = f.location; profile = f.profile; offset = z; flags = f.flags; token = f.token; ttl = f.ttl }))) (signed_unsigned f.offset fits)
 
 -- what stands at the front of the room, when the writer answers that it wrote
-pub wrote_reads : (c : Command) (s room after : List ℕ) (r : Written) (n : ℕ) (m : Mode) (a : Access)
-    → Writes (command_bad c s) (control_image c s) room r after → r ≡ Wrote n → first_broken (mark_rules (row_for c).marked m a) ≡ 0
+pub wrote_reads : (c : Command) (s room after : List ℕ) (r : Result ℕ Refusal) (n : ℕ) (m : Mode) (a : Access)
+    → Writes (command_bad c s) (control_image c s) room r after → r ≡ Ok n → first_broken (mark_rules (row_for c).marked m a) ≡ 0
     → ReadsBack c s (take n after) m a
 wrote_reads c s room after r n m a w e may = wrote_back (λ (p : List ℕ). ReadsBack c s p m a) (λ good. reads_back c s m a good may) n w e

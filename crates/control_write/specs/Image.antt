@@ -3,7 +3,8 @@ use Rattle.std.specs.Prelude.{ℕ, Bool, ◌||◌, List, ◌∷◌, ◌++◌, le
 use Rattle.wire.specs.Numbers.{le}
 use Rattle.wire.specs.Fields.{body_of, unreadable}
 use Rattle.wire.specs.Writing.{Writes}
-use Rattle.wire.specs.declared.Written.{Written}
+use Rattle.std.specs.Prelude.{Result}
+use Rattle.wire.specs.declared.refusals.Refusal.{Refusal}
 use Rattle.control.specs.Command.{command_number, command_values, command_parts}
 use Rattle.control.specs.Table.{Row, row_of}
 use Rattle.control.specs.declared.Command.{Command}
@@ -37,5 +38,5 @@ abbrev pub bad_within : ℕ → Command → List ℕ → Bool
 bad_within limit c s = command_bad c s || ltb limit (length (payload_image c s))
 
 -- what a writer answers and leaves that puts the packet behind other bytes and keeps its payload within a limit
-abbrev pub WritesBehind : List ℕ → ℕ → Command → List ℕ → List ℕ → Written → List ℕ → Type 0
+abbrev pub WritesBehind : List ℕ → ℕ → Command → List ℕ → List ℕ → Result ℕ Refusal → List ℕ → Type 0
 WritesBehind front limit c s room answer after = Writes (bad_within limit c s) (front ++ control_image c s) room answer after

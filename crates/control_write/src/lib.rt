@@ -7,17 +7,23 @@ ghost use Rattle.wire.specs.Writing.{Writes};
 ghost use Rattle.control_write.specs.Image.{control_image, command_bad, WritesBehind};
 
 use control::Command;
-use wire::Written;
+use wire::Refusal;
 
 // A command's packet. Its parts name bytes of `bytes`.
-pub fn write_control(c: Command, bytes: &[u8], out: &mut [u8]) -> Written
+pub fn write_control(c: Command, bytes: &[u8], out: &mut [u8]) -> Result<usize, Refusal>
     ensures { Writes (command_bad c bytes.now) (control_image c bytes.now) out.old result out.new }
 {
     write_behind(&bytes[0..0], 65535, c, bytes, out)
 }
 
 // A command's packet behind the bytes of `front`, its payload at most `limit` bytes. Its parts name bytes of `bytes`.
-pub fn write_behind(front: &[u8], limit: usize, c: Command, bytes: &[u8], out: &mut [u8]) -> Written
+pub fn write_behind(
+    front: &[u8],
+    limit: usize,
+    c: Command,
+    bytes: &[u8],
+    out: &mut [u8],
+) -> Result<usize, Refusal>
     ensures { WritesBehind front.now limit c bytes.now out.old result out.new }
 {
     match c {

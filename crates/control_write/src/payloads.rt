@@ -9,7 +9,7 @@ use control::{
     DeviceHeartbeatFields, GetStateFields, IbeaconFields, MultiSwitchFields, SetStateFields,
     SetupFields, TrackedDeviceFields,
 };
-use wire::Written;
+use wire::Refusal;
 
 // A packet behind the bytes of `front`, its payload `fields`, `a` and `b`: 17 for one longer than the size field counts, or than `limit`.
 pub fn packet(
@@ -20,22 +20,22 @@ pub fn packet(
     a: &[u8],
     b: &[u8],
     out: &mut [u8],
-) -> Written
+) -> Result<usize, Refusal>
     ensures { Writes (ltb 65535 (length (fields.now ++ (a.now ++ b.now))) || ltb limit (length (fields.now ++ (a.now ++ b.now))))
         (front.now ++ packet_image number (fields.now ++ (a.now ++ b.now))) out.old result out.new }
 {
     if 65535 < fields.len() {
-        return Written::Refused(17);
+        return Err(Refusal::BadMessageData);
     }
     if 65535 - fields.len() < a.len() {
-        return Written::Refused(17);
+        return Err(Refusal::BadMessageData);
     }
     if 65535 - fields.len() - a.len() < b.len() {
-        return Written::Refused(17);
+        return Err(Refusal::BadMessageData);
     }
     let size = fields.len() + a.len() + b.len();
     if limit < size {
-        return Written::Refused(17);
+        return Err(Refusal::BadMessageData);
     }
     let n = wire::u16_bytes(number);
     let z = wire::u16_bytes(size as u16);
@@ -43,19 +43,25 @@ pub fn packet(
     wire::layouts::write5(front, &head, fields, a, b, out)
 }
 
-pub fn setup(front: &[u8], limit: usize, f: SetupFields, bytes: &[u8], out: &mut [u8]) -> Written
+pub fn setup(
+    front: &[u8],
+    limit: usize,
+    f: SetupFields,
+    bytes: &[u8],
+    out: &mut [u8],
+) -> Result<usize, Refusal>
     ensures { WritesBehind front.now limit (Setup f) bytes.now out.old result out.new }
 {
     let keys = f.keys;
     let rest = f.rest;
     if wire::layouts::runs_past(bytes, keys) {
-        return Written::Refused(17);
+        return Err(Refusal::BadMessageData);
     }
     if wire::layouts::runs_past(bytes, rest) {
-        return Written::Refused(17);
+        return Err(Refusal::BadMessageData);
     }
     if keys.len != 96 {
-        return Written::Refused(17);
+        return Err(Refusal::BadMessageData);
     }
     let fields = [f.stone, f.sphere];
     packet(
@@ -69,7 +75,12 @@ pub fn setup(front: &[u8], limit: usize, f: SetupFields, bytes: &[u8], out: &mut
     )
 }
 
-pub fn factory_reset(front: &[u8], limit: usize, bytes: &[u8], out: &mut [u8]) -> Written
+pub fn factory_reset(
+    front: &[u8],
+    limit: usize,
+    bytes: &[u8],
+    out: &mut [u8],
+) -> Result<usize, Refusal>
     ensures { WritesBehind front.now limit FactoryReset bytes.now out.old result out.new }
 {
     let none = &bytes[0..0];
@@ -92,11 +103,11 @@ pub fn get_state(
     f: GetStateFields,
     bytes: &[u8],
     out: &mut [u8],
-) -> Written
+) -> Result<usize, Refusal>
     ensures { WritesBehind front.now limit (GetState f) bytes.now out.old result out.new }
 {
     if 2 < f.mode {
-        return Written::Refused(17);
+        return Err(Refusal::BadMessageData);
     }
     let none = &bytes[0..0];
     let fields = state_fields(f.kind, f.id, f.mode);
@@ -109,15 +120,15 @@ pub fn set_state(
     f: SetStateFields,
     bytes: &[u8],
     out: &mut [u8],
-) -> Written
+) -> Result<usize, Refusal>
     ensures { WritesBehind front.now limit (SetState f) bytes.now out.old result out.new }
 {
     let value = f.value;
     if wire::layouts::runs_past(bytes, value) {
-        return Written::Refused(17);
+        return Err(Refusal::BadMessageData);
     }
     if 1 < f.mode {
-        return Written::Refused(17);
+        return Err(Refusal::BadMessageData);
     }
     let fields = state_fields(f.kind, f.id, f.mode);
     packet(
@@ -137,11 +148,11 @@ pub fn ibeacon_config(
     f: IbeaconFields,
     bytes: &[u8],
     out: &mut [u8],
-) -> Written
+) -> Result<usize, Refusal>
     ensures { WritesBehind front.now limit (IbeaconConfig f) bytes.now out.old result out.new }
 {
     if 1 < f.id {
-        return Written::Refused(17);
+        return Err(Refusal::BadMessageData);
     }
     let none = &bytes[0..0];
     let t = wire::u32_bytes(f.timestamp);
@@ -150,11 +161,17 @@ pub fn ibeacon_config(
     packet(front, limit, 6, &fields, none, none, out)
 }
 
-pub fn switch(front: &[u8], limit: usize, value: u8, bytes: &[u8], out: &mut [u8]) -> Written
+pub fn switch(
+    front: &[u8],
+    limit: usize,
+    value: u8,
+    bytes: &[u8],
+    out: &mut [u8],
+) -> Result<usize, Refusal>
     ensures { WritesBehind front.now limit (Switch value) bytes.now out.old result out.new }
 {
     if 100 < value {
-        return Written::Refused(17);
+        return Err(Refusal::BadMessageData);
     }
     let none = &bytes[0..0];
     let fields = [value];
@@ -167,19 +184,19 @@ pub fn multi_switch(
     f: MultiSwitchFields,
     bytes: &[u8],
     out: &mut [u8],
-) -> Written
+) -> Result<usize, Refusal>
     ensures { WritesBehind front.now limit (MultiSwitch f) bytes.now out.old result out.new }
 {
     let pairs = f.pairs;
     if wire::layouts::runs_past(bytes, pairs) {
-        return Written::Refused(17);
+        return Err(Refusal::BadMessageData);
     }
     if pairs.len != 2 * wire::wide(f.count) {
-        return Written::Refused(17);
+        return Err(Refusal::BadMessageData);
     }
     let named = wire::part_of(bytes, pairs);
     if wire::layouts::second_above(100, named) {
-        return Written::Refused(17);
+        return Err(Refusal::BadMessageData);
     }
     let fields = [f.count];
     packet(front, limit, 21, &fields, &bytes[0..0], named, out)
@@ -191,15 +208,15 @@ pub fn register_tracked_device(
     f: TrackedDeviceFields,
     bytes: &[u8],
     out: &mut [u8],
-) -> Written
+) -> Result<usize, Refusal>
     ensures { WritesBehind front.now limit (RegisterTrackedDevice f) bytes.now out.old result out.new }
 {
     let ttl = f.ttl;
     if 0xFFFFFF < f.token {
-        return Written::Refused(17);
+        return Err(Refusal::BadMessageData);
     }
     if 65535 < ttl.0 {
-        return Written::Refused(17);
+        return Err(Refusal::BadMessageData);
     }
     let none = &bytes[0..0];
     let d = wire::u16_bytes(f.device);
@@ -218,15 +235,15 @@ pub fn tracked_device_heartbeat(
     f: DeviceHeartbeatFields,
     bytes: &[u8],
     out: &mut [u8],
-) -> Written
+) -> Result<usize, Refusal>
     ensures { WritesBehind front.now limit (TrackedDeviceHeartbeat f) bytes.now out.old result out.new }
 {
     let ttl = f.ttl;
     if 0xFFFFFF < f.token {
-        return Written::Refused(17);
+        return Err(Refusal::BadMessageData);
     }
     if 60 < ttl.0 {
-        return Written::Refused(17);
+        return Err(Refusal::BadMessageData);
     }
     let none = &bytes[0..0];
     let d = wire::u16_bytes(f.device);
@@ -236,7 +253,13 @@ pub fn tracked_device_heartbeat(
 }
 
 // A command that has no payload.
-pub fn none(front: &[u8], limit: usize, number: u16, bytes: &[u8], out: &mut [u8]) -> Written
+pub fn none(
+    front: &[u8],
+    limit: usize,
+    number: u16,
+    bytes: &[u8],
+    out: &mut [u8],
+) -> Result<usize, Refusal>
     ensures { Writes (ltb limit 0) (front.now ++ packet_image number []) out.old result out.new }
 {
     let empty = &bytes[0..0];

@@ -31,7 +31,6 @@ use Rattle.message.specs.declared.Form.{Form}
 use Rattle.std.specs.Prelude.{Result, Ok}
 use Rattle.wire.specs.declared.refusals.Refusal.{Refusal}
 use Rattle.message.specs.declared.Message.{Message}
-use Rattle.wire.specs.Refusals.{refusing}
 
 -- what a row makes of data
 record BodyHolds (n : ℕ) (r : Row) (d : List ℕ) : Type 0 where

@@ -9,8 +9,9 @@ use lib.Dec.{ltb}
 use borrow.Author.Tests.{lt-ltb, le-ltb, ltb-true, ltb-false}
 use Rattle.wire.specs.Numbers.{le}
 use Rattle.wire.specs.Writing.{Stores, Writes, no_room}
-use Rattle.wire.specs.declared.Written.{Written}
-use Rattle.wire.specs.declared.Written.TheVariants.{Refused}
+use Rattle.std.specs.Prelude.{Result}
+use Rattle.wire.specs.declared.refusals.Refusal.{Refusal}
+use Rattle.wire.specs.Refusals.{refusing}
 use Rattle.wire.proofs.Writers.{writes_bad, writes_good}
 use Rattle.control.specs.declared.Command.{Command}
 use Rattle.control_write.specs.Image.{payload_image, control_image, command_bad, bad_within}
@@ -19,10 +20,10 @@ use Rattle.message_write.specs.Image.{message_bad}
 
 -- a data type, fields and a slice
 module _ (n : ℕ) (fields rest room : List ℕ) where
-  pub typed_over : 505 < length fields + length rest → Writes (ltb 507 (length (le 2 n ++ (fields ++ rest)))) (le 2 n ++ (fields ++ rest)) room (Refused 17) room
+  pub typed_over : 505 < length fields + length rest → Writes (ltb 507 (length (le 2 n ++ (fields ++ rest)))) (le 2 n ++ (fields ++ rest)) room (refusing 17) room
   typed_over h = writes_bad (lt-ltb 507 (length (le 2 n ++ (fields ++ rest))) (omega (arith, length-append fields rest)))
 
-  pub typed_made : {answer : Written} {after : List ℕ} → length fields + length rest ≤ 505
+  pub typed_made : {answer : Result ℕ Refusal} {after : List ℕ} → length fields + length rest ≤ 505
       → Stores (no_room 0 (le 2 n ++ (fields ++ rest)) room ∷ []) 0 (le 2 n ++ (fields ++ rest)) room answer after
       → Writes (ltb 507 (length (le 2 n ++ (fields ++ rest)))) (le 2 n ++ (fields ++ rest)) room answer after
   typed_made h w = writes_good (le-ltb 507 (length (le 2 n ++ (fields ++ rest))) (omega (arith, length-append fields rest))) w

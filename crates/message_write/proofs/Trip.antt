@@ -11,8 +11,9 @@ use Rattle.wire.specs.Numbers.{num, le}
 use Rattle.wire.specs.Rules.{first_broken, verdict}
 use Rattle.wire.specs.Fields.{Layout, tail_parts, each_part, body_of}
 use Rattle.wire.specs.Writing.{Writes}
-use Rattle.wire.specs.declared.Written.{Written}
-use Rattle.wire.specs.declared.Written.TheVariants.{Wrote}
+use Rattle.std.specs.Prelude.{Result}
+use Rattle.wire.specs.declared.refusals.Refusal.{Refusal}
+use Rattle.std.specs.Prelude.{Ok}
 use Rattle.wire.proofs.Choice.{or_fails}
 use Rattle.wire.proofs.Content.{same_content}
 use Rattle.wire.proofs.Fields.{readable}
@@ -30,7 +31,7 @@ use Rattle.message.specs.Reading.{form_rules, body_rules, message_rules, message
 use Rattle.message.specs.declared.Form.{Form}
 use Rattle.message.specs.declared.Message.{Message}
 use Rattle.message.specs.declared.Message.TheVariants.{Hello, SessionNonce, Heartbeat, Status, GetMac, Control, HubReply}
-use Rattle.message.specs.declared.MessageRead.TheVariants.{Accepted, Refused}
+use Rattle.wire.specs.Refusals.{refusing}
 use Rattle.message.proofs.Meaning.{message_holds}
 use Rattle.message_write.specs.Image.{body_for, data_of, data_bad, message_image, message_bad}
 use Rattle.message_write.specs.RoundTrip.{permit_rules, ReadsBack}
@@ -62,7 +63,7 @@ module _ (m : Message) (s : List ℕ) (f : Form) (required : Bool) (mode : Mode)
             ∙ ap (λ (n : ℕ). body_content n (type_of n).body q) k
             ∙ ap (λ (x : Body). body_content (message_type m) x q) body
             ∙ same_content refl r.values (ap (tail_parts l.tail) r.behind ∙ apart);
-        answer = ap (λ (n : ℕ). verdict Refused n (Accepted (message_at p))) e;
+        answer = ap (λ (n : ℕ). verdict refusing n (Ok (message_at p))) e;
       })
 
 -- ---- a control packet
@@ -73,7 +74,7 @@ packet_back c s f required mode good may marked =
     let e = clear f required mode 10 (control_image c s) refl may (packets.unbroken c s mode (access_of f) good marked) in
     record {
       content = ap (under 10) (packets.reads_back c s mode (access_of f) good marked).content;
-      answer = ap (λ (n : ℕ). verdict Refused n (Accepted (message_at (message_image (Control c) s)))) e;
+      answer = ap (λ (n : ℕ). verdict refusing n (Ok (message_at (message_image (Control c) s)))) e;
     }
 
 -- ---- either
@@ -92,8 +93,8 @@ module _ (s : List ℕ) (f : Form) (required : Bool) (mode : Mode) where
       (unbroken k (h.0, (h.1.0, tt))) (unbroken (mark_rules (row_for c).marked mode (access_of f)) h.1.1)
 
 -- what stands at the front of the room, when the writer answers that it wrote
-pub wrote_reads : (m : Message) (s room after : List ℕ) (r : Written) (n : ℕ) (f : Form) (required : Bool) (mode : Mode)
-    → Writes (message_bad m s) (message_image m s) room r after → r ≡ Wrote n → first_broken (permit_rules m f required mode) ≡ 0
+pub wrote_reads : (m : Message) (s room after : List ℕ) (r : Result ℕ Refusal) (n : ℕ) (f : Form) (required : Bool) (mode : Mode)
+    → Writes (message_bad m s) (message_image m s) room r after → r ≡ Ok n → first_broken (permit_rules m f required mode) ≡ 0
     → ReadsBack m s (take n after) f required mode
 wrote_reads m s room after r n f required mode w e may =
     wrote_back (λ (p : List ℕ). ReadsBack m s p f required mode) (λ good. reads_back s f required mode m good may) n w e

@@ -3,7 +3,8 @@ use Rattle.std.specs.Prelude.{ℕ, Bool, true, ◌||◌, List, [], ◌++◌, len
 use Rattle.wire.specs.Numbers.{le}
 use Rattle.wire.specs.Fields.{body_of, unreadable}
 use Rattle.wire.specs.Writing.{Writes}
-use Rattle.wire.specs.declared.Written.{Written}
+use Rattle.std.specs.Prelude.{Result}
+use Rattle.wire.specs.declared.refusals.Refusal.{Refusal}
 use Rattle.control.specs.declared.Command.{Command}
 use Rattle.control_write.specs.Image.{control_image, command_bad}
 use Rattle.message.specs.Message.{message_type, message_values, message_parts}
@@ -45,5 +46,5 @@ abbrev pub message_bad : Message → List ℕ → Bool
 message_bad m s = data_bad (body_for m) m s || ltb 507 (length (message_image m s))
 
 -- what the writer answers and leaves
-abbrev pub WritesMessage : Message → List ℕ → List ℕ → Written → List ℕ → Type 0
+abbrev pub WritesMessage : Message → List ℕ → List ℕ → Result ℕ Refusal → List ℕ → Type 0
 WritesMessage m s room answer after = Writes (message_bad m s) (message_image m s) room answer after

@@ -9,7 +9,7 @@ use Rattle.message.specs.Table.{type_of, access_of}
 use Rattle.message.specs.Reading.{form_rules, message_at, read_message}
 use Rattle.message.specs.declared.Form.{Form}
 use Rattle.message.specs.declared.Message.{Message}
-use Rattle.message.specs.declared.MessageRead.TheVariants.{Accepted}
+use Rattle.std.specs.Prelude.{Ok}
 use Rattle.message_write.specs.Image.{if_control}
 
 -- what the writer does not judge: 15 and 16, and a command's 21 and 22
@@ -20,4 +20,4 @@ permit_rules m f required mode =
 -- a message's bytes are read, and what is read holds what the written message holds: data type, values, and each part's bytes
 pub record ReadsBack (m : Message) (s p : List ℕ) (f : Form) (required : Bool) (mode : Mode) : Type 0 where
   pub content : message_content (message_at p) (drop (parts_at (message_at p)) (drop 2 p)) ≡ message_content m s
-  pub answer : read_message p f required mode ≡ Accepted (message_at p)
+  pub answer : read_message p f required mode ≡ Ok (message_at p)

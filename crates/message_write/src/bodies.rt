@@ -8,75 +8,75 @@ ghost use Rattle.message_write.specs.Image.{WritesMessage};
 use control::Command;
 use message::{HubReplyFields, SessionNonceFields, StatusFields};
 use units::Seconds;
-use wire::Written;
+use wire::Refusal;
 
 // A data type, and data of fields and a slice: at most 507 bytes.
-pub fn typed(number: u16, fields: &[u8], rest: &[u8], out: &mut [u8]) -> Written
+pub fn typed(number: u16, fields: &[u8], rest: &[u8], out: &mut [u8]) -> Result<usize, Refusal>
     ensures { Writes (ltb 507 (length (le 2 number ++ (fields.now ++ rest.now)))) (le 2 number ++ (fields.now ++ rest.now)) out.old result out.new }
 {
     if 505 < fields.len() {
-        return Written::Refused(17);
+        return Err(Refusal::BadMessageData);
     }
     if 505 - fields.len() < rest.len() {
-        return Written::Refused(17);
+        return Err(Refusal::BadMessageData);
     }
     let head = wire::u16_bytes(number);
     wire::write3(&head, fields, rest, out)
 }
 
-pub fn hello(flags: u8, bytes: &[u8], out: &mut [u8]) -> Written
+pub fn hello(flags: u8, bytes: &[u8], out: &mut [u8]) -> Result<usize, Refusal>
     ensures { WritesMessage (Hello flags) bytes.now out.old result out.new }
 {
     if 15 < flags {
-        return Written::Refused(17);
+        return Err(Refusal::BadMessageData);
     }
     let fields = [flags];
     typed(0, &fields, &bytes[0..0], out)
 }
 
-pub fn session_nonce(f: SessionNonceFields, bytes: &[u8], out: &mut [u8]) -> Written
+pub fn session_nonce(f: SessionNonceFields, bytes: &[u8], out: &mut [u8]) -> Result<usize, Refusal>
     ensures { WritesMessage (SessionNonce f) bytes.now out.old result out.new }
 {
     let timeout = f.timeout;
     let nonce = f.nonce;
     if 255 < timeout.0 {
-        return Written::Refused(17);
+        return Err(Refusal::BadMessageData);
     }
     let fields = [timeout.0 as u8, nonce.0, nonce.1, nonce.2, nonce.3, nonce.4];
     typed(1, &fields, &bytes[0..0], out)
 }
 
-pub fn heartbeat(timeout: Seconds, bytes: &[u8], out: &mut [u8]) -> Written
+pub fn heartbeat(timeout: Seconds, bytes: &[u8], out: &mut [u8]) -> Result<usize, Refusal>
     ensures { WritesMessage (Heartbeat timeout) bytes.now out.old result out.new }
 {
     if 65535 < timeout.0 {
-        return Written::Refused(17);
+        return Err(Refusal::BadMessageData);
     }
     let fields = wire::u16_bytes(timeout.0 as u16);
     typed(2, &fields, &bytes[0..0], out)
 }
 
-pub fn status(f: StatusFields, bytes: &[u8], out: &mut [u8]) -> Written
+pub fn status(f: StatusFields, bytes: &[u8], out: &mut [u8]) -> Result<usize, Refusal>
     ensures { WritesMessage (Status f) bytes.now out.old result out.new }
 {
     let part = f.data;
     if wire::layouts::runs_past(bytes, part) {
-        return Written::Refused(17);
+        return Err(Refusal::BadMessageData);
     }
     if part.len != 9 {
-        return Written::Refused(17);
+        return Err(Refusal::BadMessageData);
     }
     if 1 < f.kind {
-        return Written::Refused(17);
+        return Err(Refusal::BadMessageData);
     }
     if 15 < f.flags {
-        return Written::Refused(17);
+        return Err(Refusal::BadMessageData);
     }
     let fields = [f.kind, f.flags];
     typed(3, &fields, wire::part_of(bytes, part), out)
 }
 
-pub fn get_mac(bytes: &[u8], out: &mut [u8]) -> Written
+pub fn get_mac(bytes: &[u8], out: &mut [u8]) -> Result<usize, Refusal>
     ensures { WritesMessage GetMac bytes.now out.old result out.new }
 {
     let none = &bytes[0..0];
@@ -84,19 +84,19 @@ pub fn get_mac(bytes: &[u8], out: &mut [u8]) -> Written
 }
 
 // A control packet behind the type's two bytes: 500 bytes of payload make a message of 507.
-pub fn control_packet(c: Command, bytes: &[u8], out: &mut [u8]) -> Written
+pub fn control_packet(c: Command, bytes: &[u8], out: &mut [u8]) -> Result<usize, Refusal>
     ensures { WritesMessage (Control c) bytes.now out.old result out.new }
 {
     let head = [10, 0];
     control_write::write_behind(&head, 500, c, bytes, out)
 }
 
-pub fn hub_reply(f: HubReplyFields, bytes: &[u8], out: &mut [u8]) -> Written
+pub fn hub_reply(f: HubReplyFields, bytes: &[u8], out: &mut [u8]) -> Result<usize, Refusal>
     ensures { WritesMessage (HubReply f) bytes.now out.old result out.new }
 {
     let part = f.data;
     if wire::layouts::runs_past(bytes, part) {
-        return Written::Refused(17);
+        return Err(Refusal::BadMessageData);
     }
     let fields = wire::u16_bytes(f.code);
     typed(11, &fields, wire::part_of(bytes, part), out)

@@ -7,10 +7,10 @@ ghost use Rattle.wire.specs.Writing.{Writes};
 ghost use Rattle.message_write.specs.Image.{message_image, message_bad};
 
 use message::Message;
-use wire::Written;
+use wire::Refusal;
 
 // A message. Its parts, or its command's, name bytes of `bytes`.
-pub fn write_message(m: Message, bytes: &[u8], out: &mut [u8]) -> Written
+pub fn write_message(m: Message, bytes: &[u8], out: &mut [u8]) -> Result<usize, Refusal>
     ensures { Writes (message_bad m bytes.now) (message_image m bytes.now) out.old result out.new }
 {
     match m {
