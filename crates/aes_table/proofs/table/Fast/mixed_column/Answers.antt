@@ -1,4 +1,4 @@
--- `aes_table::words::mixed_column` meets its contract. Assumes nothing.
+-- `aes_table::table::Fast::mixed_column` meets its contract. Assumes nothing.
 use mathlib.Core.Path.{◌≡◌, ◌∙◌, ap}
 use mathlib.Core.List.{List}
 use Prim.Native.Nat.{ℕ}
@@ -8,7 +8,7 @@ use Rattle.aes.specs.Box.{sub_byte}
 use Rattle.aes.specs.Cipher.{xor_word}
 use Rattle.aes_table.specs.Words.{down}
 use Rattle.aes_table.proofs.Columns.{le_xor, mixed_sum}
-use Rattle.aes_table.proofs.words.mixed_column.Goals as goal
+use Rattle.aes_table.proofs.table.Fast.mixed_column.Goals as goal
 
 sum_of : {p q r s : List ℕ} (x y z w : ℕ) → le 4 x ≡ p → le 4 y ≡ q → le 4 z ≡ r → le 4 w ≡ s
     → le 4 (x ⊕ y ⊕ z ⊕ w) ≡ xor_word (xor_word (xor_word p q) r) s

@@ -1,9 +1,9 @@
--- `aes_table::next_key` meets its contract. Assumes nothing.
+-- `aes_table::FastBlockCipher::next_key` meets its contract. Assumes nothing.
 use mathlib.Core.Path.{◌∙◌}
 use borrow.Author.Rules.{rules}
 use Rattle.aes.specs.Cipher.{next_key, of_state, xor_word, chained}
 use Rattle.aes_table.proofs.Columns.{le_byte, chained_words}
-use Rattle.aes_table.proofs.next_key.Goals as goal
+use Rattle.aes_table.proofs.FastBlockCipher.next_key.Goals as goal
 
 pub returns : goal.returns
 unfolding next_key
