@@ -8,6 +8,7 @@ ghost use Rattle.envelope.specs.Sealed.{message_size, message_misfit, late_rules
 ghost use Rattle.envelope.specs.Characteristic.{packet_size, packet_misfit, all_zero, characteristic_rules, packet_in};
 
 use crate::outside;
+use aes::block_cipher::BlockCipher;
 use session::NonceMemory;
 use wire::{Part, Written};
 
@@ -63,7 +64,7 @@ pub fn judge_nonce(memory: NonceMemory, payload: &[u8]) -> u8
 }
 
 // The payload's blocks deciphered, at the front of the work buffer; 25 where they do not fit.
-pub fn decipher(key: [u8; 16], nonce: [u8; 5], payload: &[u8], work: &mut [u8]) -> Written
+pub fn decipher<C: BlockCipher>(key: [u8; 16], nonce: [u8; 5], payload: &[u8], work: &mut [u8]) -> Written
     ensures { Stores (no_room 0 (deciphered key nonce payload.now) work.old ∷ []) 0
         (deciphered key nonce payload.now) work.old result work.new }
 {
@@ -71,7 +72,7 @@ pub fn decipher(key: [u8; 16], nonce: [u8; 5], payload: &[u8], work: &mut [u8]) 
         return Written::Wrote(0);
     }
     let packet_nonce = [payload[0], payload[1], payload[2]];
-    aes::apply_ctr(key, packet_nonce, nonce, &payload[4..], work)
+    aes::ctr::apply_ctr::<C>(key, packet_nonce, nonce, &payload[4..], work)
 }
 
 // The bytes of the packet nonce; one past the end counts as 0.
