@@ -90,7 +90,7 @@ fn envelop<C: BlockCipher>(
     ensures { Stores (no_room 0 (enveloped key.bytes packet_nonce session_nonce id (padded (head.now ++ body.now))) out.old ∷ (10 when not key.held) ∷ []) 0
         (enveloped key.bytes packet_nonce session_nonce id (padded (head.now ++ body.now))) out.old result out.new }
 {
-    let n = 16 * ((head.len() + body.len() + 15) / 16);
+    let n = 16 * aes::blocks_for(head.len() + body.len());
     if out.len() < 4 + n {
         return Written::Refused(25);
     }
