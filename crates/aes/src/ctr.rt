@@ -1,12 +1,10 @@
 // Counter mode, document 01, 'Cipher and session': the same function seals and opens.
-//
-// The round keys are made once a call.
-ghost use Rattle.std.specs.Prelude.{◌≡◌, ◌∷◌, [], min, drop};
+ghost use Rattle.std.specs.Prelude.{◌≡◌, ◌∷◌, [], drop};
 ghost use Rattle.std.proofs.lemmas.List.Edits.{sets};
 ghost use Rattle.wire.specs.Writing.{Stores, no_room};
 ghost use Rattle.aes.specs.Ctr.{xors, counter_block, blocks_for, ctr_of};
 
-use super::{encrypt_block, expand_key};
+use super::block_cipher::{BlockCipher, encrypt_block, expand_key};
 use wire::{Written, count_from};
 
 // Packet nonce, session nonce, and the counter, high byte first.
@@ -40,24 +38,13 @@ pub fn counter_block(pn: [u8; 3], sn: [u8; 5], i: usize) -> [u8; 16]
     ]
 }
 
-fn least(a: usize, b: usize) -> usize
-    ensures { result ≡ min a b }
-{
-    if a < b { a } else { b }
-}
-
 // The bytes from a place on, as far as they, the block and the room reach, summed with the block.
 pub fn xor_block(block: [u8; 16], src: &[u8], at: usize, out: &mut [u8])
     ensures { out.new ≡ sets out.old at (xors (drop at src.now) block) }
 {
-    let n = least(
-        16,
-        least(count_from(src.len(), at), count_from(out.len(), at)),
-    );
-    let mut j: usize = 0;
-    while j < n {
+    let n = count_from(src.len(), at).min(count_from(out.len(), at));
+    for j in 0..n.min(16) {
         out[at + j] = src[at + j] ^ block[j];
-        j += 1;
     }
 }
 
@@ -65,11 +52,11 @@ pub fn xor_block(block: [u8; 16], src: &[u8], at: usize, out: &mut [u8])
 pub fn blocks_for(n: usize) -> usize
     ensures { result ≡ blocks_for n }
 {
-    n / 16 + (n % 16 + 15) / 16
+    n.div_ceil(16)
 }
 
-// The bytes of src, enciphered or deciphered, at the front of out; 25 where out is shorter.
-pub fn apply_ctr(
+// The bytes of src, enciphered or deciphered, at the front of out; 25 where out is shorter. Cipher and round keys are made once a call.
+pub fn apply_ctr<C: BlockCipher>(
     key: [u8; 16],
     packet_nonce: [u8; 3],
     session_nonce: [u8; 5],
@@ -82,13 +69,12 @@ pub fn apply_ctr(
     if out.len() < src.len() {
         return Written::Refused(25);
     }
-    let keys = expand_key(key);
+    let cipher = C::new();
+    let keys = expand_key(&cipher, key);
     let blocks = blocks_for(src.len());
-    let mut i: usize = 0;
-    while i < blocks {
-        let block = encrypt_block(&keys, counter_block(packet_nonce, session_nonce, i));
-        xor_block(block, src, 16 * i, out);
-        i += 1;
+    for i in 0..blocks {
+        let counter = counter_block(packet_nonce, session_nonce, i);
+        xor_block(encrypt_block(&cipher, &keys, counter), src, 16 * i, out);
     }
     Written::Wrote(src.len())
 }

@@ -4,21 +4,26 @@
 // their inverses take eight bytes of a state at a time (packed).
 #![tactic(auto)]
 
-mod ctr;
+pub mod block_cipher;
+pub mod ctr;
 mod inv_cipher;
 mod packed;
 mod steps;
 
 ghost use Rattle.std.specs.Prelude.{◌≡◌, ◌∷◌, []};
+ghost use Rattle.wire.specs.Writing.{Stores, no_room};
 ghost use Rattle.aes.specs.Box.{affine, sub_byte};
 ghost use Rattle.aes.specs.Packed.{each};
-ghost use Rattle.aes.specs.Cipher.{sub_bytes, sub_word, chained, next_key, key_expansion, round as roundOf, cipher_under};
+ghost use Rattle.aes.specs.Cipher.{sub_bytes, sub_word, chained, next_key, key_expansion, cipher_under};
+ghost use Rattle.aes.specs.Ctr.{ctr_of};
 
-pub use ctr::{apply_ctr, blocks_for, counter_block, xor_block};
+use block_cipher::BlockCipher;
+pub use ctr::{blocks_for, counter_block, xor_block};
 pub use inv_cipher::{decrypt_block, inv_mix_columns, inv_shift_rows, inv_sub_byte, inv_sub_bytes};
 pub use packed::xtime;
 use packed::{inverses, pack, times_x, unpack};
 pub use steps::{add_round_key, mix_columns, of_state, shift_rows, to_state};
+use wire::Written;
 
 // The affine step of each of eight bytes. Times x modulo x^8 + 1 turns a byte's digits one place to the left.
 fn affines(w: u64) -> u64
@@ -112,40 +117,69 @@ fn next_key(k: [u8; 16], c: u8) -> [u8; 16]
     chain(k, [c ^ w[0], w[1], w[2], w[3]])
 }
 
+// ---- the cipher of the small build
+
+#[derive(Clone, Copy)]
+pub struct Small;
+
+impl BlockCipher for Small {
+    type State = [[u8; 4]; 4];
+
+    ghost rows_of = { λ s. s };
+
+    fn new() -> Small {
+        Small
+    }
+
+    fn next_key(&self, k: [u8; 16], c: u8) -> [u8; 16] {
+        next_key(k, c)
+    }
+
+    fn to_state(block: [u8; 16]) -> [[u8; 4]; 4] {
+        to_state(block)
+    }
+
+    fn of_state(s: [[u8; 4]; 4]) -> [u8; 16] {
+        of_state(s)
+    }
+
+    fn add_round_key(s: [[u8; 4]; 4], k: [u8; 16]) -> [[u8; 4]; 4] {
+        add_round_key(s, k)
+    }
+
+    fn substitute(&self, s: [[u8; 4]; 4]) -> [[u8; 4]; 4] {
+        shift_rows(sub_bytes(s))
+    }
+
+    fn mix(&self, s: [[u8; 4]; 4]) -> [[u8; 4]; 4] {
+        mix_columns(shift_rows(sub_bytes(s)))
+    }
+}
+
 // The eleven round keys of a key.
 pub fn expand_key(key: [u8; 16]) -> [[u8; 16]; 11]
     ensures { result ≡ key_expansion key }
 {
-    let mut keys = [key; 11];
-    let mut c: u8 = 1;
-    let mut i: usize = 0;
-    while i < 10 {
-        let k = next_key(keys[i], c);
-        c = xtime(c);
-        i += 1;
-        keys[i] = k;
-    }
-    keys
-}
-
-// ---- section 5.1: the cipher
-
-fn round(s: [[u8; 4]; 4], k: [u8; 16]) -> [[u8; 4]; 4]
-    ensures { result ≡ roundOf k s }
-{
-    add_round_key(mix_columns(shift_rows(sub_bytes(s))), k)
+    block_cipher::expand_key(&Small, key)
 }
 
 // A block enciphered under round keys.
 pub fn encrypt_block(keys: &[[u8; 16]; 11], block: [u8; 16]) -> [u8; 16]
     ensures { result ≡ cipher_under keys.now block }
 {
-    let mut s = add_round_key(to_state(block), keys[0]);
-    let mut i: usize = 0;
-    while i < 9 {
-        i += 1;
-        let n = round(s, keys[i]);
-        s = n;
-    }
-    of_state(add_round_key(shift_rows(sub_bytes(s)), keys[10]))
+    block_cipher::encrypt_block(&Small, keys, block)
+}
+
+// The bytes of src, enciphered or deciphered, at the front of out; 25 where out is shorter.
+pub fn apply_ctr(
+    key: [u8; 16],
+    packet_nonce: [u8; 3],
+    session_nonce: [u8; 5],
+    src: &[u8],
+    out: &mut [u8],
+) -> Written
+    ensures { Stores (no_room 0 (ctr_of key packet_nonce session_nonce src.now) out.old ∷ []) 0
+        (ctr_of key packet_nonce session_nonce src.now) out.old result out.new }
+{
+    ctr::apply_ctr::<Small>(key, packet_nonce, session_nonce, src, out)
 }

@@ -2,7 +2,7 @@
 ghost use Rattle.std.specs.Prelude.{◌≡◌};
 ghost use Rattle.wire.specs.Numbers.{le};
 ghost use Rattle.aes.specs.Box.{sub_byte};
-ghost use Rattle.aes_table.specs.Words.{products, table as table_of};
+ghost use Rattle.aes_table.specs.Words.{products, table};
 
 const TABLE: [u32; 256] = [
     0xa563_63c6,
@@ -263,25 +263,29 @@ const TABLE: [u32; 256] = [
     0x3a16_162c,
 ];
 
-// The table, to be made once a call and lent.
-pub(crate) fn table() -> [u32; 256]
-    ensures { result ≡ table_of }
-{
-    TABLE
+// The cipher of the faster build: the table, to be made once a call and lent.
+#[derive(Drop)]
+pub struct Fast {
+    entries: [u32; 256],
+    ghost is_table: { entries ≡ table },
 }
 
-// The entry of a byte.
-pub(crate) fn entry(t: &[u32; 256], b: u8) -> u32
-    requires { t.now ≡ table_of }
-    ensures { le 4 result ≡ products (sub_byte b) }
-{
-    t[b as usize]
-}
+impl Fast {
+    pub(crate) fn with_table() -> Fast {
+        Fast { entries: TABLE }
+    }
 
-// The substitution of a byte: the second byte of its entry.
-pub(crate) fn sub_byte(t: &[u32; 256], b: u8) -> u8
-    requires { t.now ≡ table_of }
-    ensures { result ≡ sub_byte b }
-{
-    (t[b as usize] / 256 % 256) as u8
+    // The entry of a byte.
+    pub(crate) fn entry(&self, b: u8) -> u32
+        ensures { le 4 result ≡ products (sub_byte b) }
+    {
+        self.entries[b as usize]
+    }
+
+    // The substitution of a byte: the second byte of its entry.
+    pub(crate) fn sub_byte(&self, b: u8) -> u8
+        ensures { result ≡ sub_byte b }
+    {
+        (self.entries[b as usize] / 256 % 256) as u8
+    }
 }

@@ -3,9 +3,9 @@ ghost use Rattle.std.specs.Prelude.{◌≡◌, ◌∷◌, [], get_or};
 ghost use Rattle.wire.specs.Numbers.{le};
 ghost use Rattle.aes.specs.Box.{sub_byte};
 ghost use Rattle.aes.specs.Cipher.{four, to_state, of_state, sub_bytes, shift_rows, mix_columns, add_round_key};
-ghost use Rattle.aes_table.specs.Words.{table as table_of, down, state_of, mixed_column};
+ghost use Rattle.aes_table.specs.Words.{down, state_of, mixed_column};
 
-use crate::table::{entry, sub_byte};
+use crate::Fast;
 use wire::{read_u32, u32_bytes};
 
 // A column turned down one row: rotated by 8.
@@ -34,27 +34,6 @@ fn word(b: [u8; 4]) -> u32
     ensures { le 4 result ≡ four (λ i. get_or b i 0) }
 {
     read_u32(&b, 0)
-}
-
-// A column of a round before its round key, from the bytes that ShiftRows brings there.
-fn mixed_column(t: &[u32; 256], a: u8, b: u8, c: u8, d: u8) -> u32
-    requires { t.now ≡ table_of }
-    ensures { le 4 result ≡ mixed_column (sub_byte a) (sub_byte b) (sub_byte c) (sub_byte d) }
-{
-    entry(t, a) ^ rotate_8(entry(t, b)) ^ rotate_16(entry(t, c)) ^ rotate_24(entry(t, d))
-}
-
-// The column of four bytes, each substituted.
-pub(crate) fn sub_word(t: &[u32; 256], a: u8, b: u8, c: u8, d: u8) -> u32
-    requires { t.now ≡ table_of }
-    ensures { le 4 result ≡ sub_byte a ∷ sub_byte b ∷ sub_byte c ∷ sub_byte d ∷ [] }
-{
-    word([
-        sub_byte(t, a),
-        sub_byte(t, b),
-        sub_byte(t, c),
-        sub_byte(t, d),
-    ])
 }
 
 // A block as a state.
@@ -90,36 +69,58 @@ pub(crate) fn add_round_key(s: [u32; 4], k: [u8; 16]) -> [u32; 4]
     [s[0] ^ w[0], s[1] ^ w[1], s[2] ^ w[2], s[3] ^ w[3]]
 }
 
-// SubBytes, ShiftRows and MixColumns.
-pub(crate) fn mix(t: &[u32; 256], s: [u32; 4]) -> [u32; 4]
-    requires { t.now ≡ table_of }
-    ensures { state_of result ≡ mix_columns (shift_rows (sub_bytes (state_of s))) }
-{
-    let a = u32_bytes(s[0]);
-    let b = u32_bytes(s[1]);
-    let c = u32_bytes(s[2]);
-    let d = u32_bytes(s[3]);
-    [
-        mixed_column(t, a[0], b[1], c[2], d[3]),
-        mixed_column(t, b[0], c[1], d[2], a[3]),
-        mixed_column(t, c[0], d[1], a[2], b[3]),
-        mixed_column(t, d[0], a[1], b[2], c[3]),
-    ]
-}
+impl Fast {
+    // A column of a round before its round key, from the bytes that ShiftRows brings there.
+    fn mixed_column(&self, a: u8, b: u8, c: u8, d: u8) -> u32
+        ensures { le 4 result ≡ mixed_column (sub_byte a) (sub_byte b) (sub_byte c) (sub_byte d) }
+    {
+        self.entry(a)
+            ^ rotate_8(self.entry(b))
+            ^ rotate_16(self.entry(c))
+            ^ rotate_24(self.entry(d))
+    }
 
-// SubBytes and ShiftRows.
-pub(crate) fn substitute(t: &[u32; 256], s: [u32; 4]) -> [u32; 4]
-    requires { t.now ≡ table_of }
-    ensures { state_of result ≡ shift_rows (sub_bytes (state_of s)) }
-{
-    let a = u32_bytes(s[0]);
-    let b = u32_bytes(s[1]);
-    let c = u32_bytes(s[2]);
-    let d = u32_bytes(s[3]);
-    [
-        sub_word(t, a[0], b[1], c[2], d[3]),
-        sub_word(t, b[0], c[1], d[2], a[3]),
-        sub_word(t, c[0], d[1], a[2], b[3]),
-        sub_word(t, d[0], a[1], b[2], c[3]),
-    ]
+    // The column of four bytes, each substituted.
+    pub(crate) fn sub_word(&self, a: u8, b: u8, c: u8, d: u8) -> u32
+        ensures { le 4 result ≡ sub_byte a ∷ sub_byte b ∷ sub_byte c ∷ sub_byte d ∷ [] }
+    {
+        word([
+            self.sub_byte(a),
+            self.sub_byte(b),
+            self.sub_byte(c),
+            self.sub_byte(d),
+        ])
+    }
+
+    // SubBytes, ShiftRows and MixColumns.
+    pub(crate) fn mix_words(&self, s: [u32; 4]) -> [u32; 4]
+        ensures { state_of result ≡ mix_columns (shift_rows (sub_bytes (state_of s))) }
+    {
+        let a = u32_bytes(s[0]);
+        let b = u32_bytes(s[1]);
+        let c = u32_bytes(s[2]);
+        let d = u32_bytes(s[3]);
+        [
+            self.mixed_column(a[0], b[1], c[2], d[3]),
+            self.mixed_column(b[0], c[1], d[2], a[3]),
+            self.mixed_column(c[0], d[1], a[2], b[3]),
+            self.mixed_column(d[0], a[1], b[2], c[3]),
+        ]
+    }
+
+    // SubBytes and ShiftRows.
+    pub(crate) fn substitute_words(&self, s: [u32; 4]) -> [u32; 4]
+        ensures { state_of result ≡ shift_rows (sub_bytes (state_of s)) }
+    {
+        let a = u32_bytes(s[0]);
+        let b = u32_bytes(s[1]);
+        let c = u32_bytes(s[2]);
+        let d = u32_bytes(s[3]);
+        [
+            self.sub_word(a[0], b[1], c[2], d[3]),
+            self.sub_word(b[0], c[1], d[2], a[3]),
+            self.sub_word(c[0], d[1], a[2], b[3]),
+            self.sub_word(d[0], a[1], b[2], c[3]),
+        ]
+    }
 }

@@ -1,8 +1,5 @@
--- How the code splits an opening: what the functions of `opening_uart` and `opening_characteristic` give, and what they come to. The laws in proofs/Opening.antt,
--- Commands.antt and Builds.antt put them together.
-use Rattle.std.specs.Prelude.{ℕ, ◌+◌, ◌*◌, Bool, true, false, List, [], ◌++◌, length, drop, replicate, eqb}
-use Rattle.wire.specs.Choice.{pick}
-use Rattle.wire.specs.Parts.{part, part_of}
+-- How the code splits an opening, and what its parts come to. The laws in proofs/Opening.antt and Commands.antt put them together.
+use Rattle.std.specs.Prelude.{ℕ, ◌+◌, ◌*◌, Bool, true, false, List, ◌++◌, length, drop, replicate}
 use Rattle.wire.specs.Rules.{Rule, judge}
 use Rattle.message.specs.Message.{parts_at}
 use Rattle.message.specs.Reading.{message_at}
@@ -18,7 +15,7 @@ use Rattle.envelope.specs.Sealed.{late_rules, message_in}
 use Rattle.envelope.specs.Characteristic.{characteristic_rules}
 use Rattle.bridge.specs.Reply.{refusal_of, characteristic_refusal}
 use Rattle.bridge.specs.Place.{place_from}
-use Rattle.bridge.specs.Opener.{head_rules, plain_rules, uart_entry_rules, uart_text_rules, uart_text, accepted_message, session_by}
+use Rattle.bridge.specs.Opener.{plain_rules, uart_entry_rules, uart_text_rules, uart_text, accepted_message, session_by}
 use Rattle.bridge.specs.Characteristic.{accepted_command, packet_text_rules}
 use Rattle.bridge.specs.declared.Context.{Context}
 use Rattle.bridge.specs.declared.Link.{Link}
@@ -39,14 +36,6 @@ answer_by inWork start end (ReadRefused n) = refused_answer n
 
 abbrev pub opened_as : Answer → Session → Opened
 opened_as a s = record { answer = a; session = s }
-
--- the rules before the cipher runs: of an encrypted message all up to 28
-unfoldable pub frame_entry_rules : Context → ℕ → ℕ → ℕ → List ℕ → List Rule
-frame_entry_rules g room major wrapper p = head_rules major wrapper ++ pick (eqb wrapper 128) (uart_entry_rules g room p) []
-
--- the blocks that a payload was deciphered to, at the front of the work buffer
-abbrev pub text_in : List ℕ → List ℕ → List ℕ
-text_in p work = part_of work (part 0 (16 * blocks_in p))
 
 -- a plain message: the answer, and the session after it
 unfoldable pub plain_answer : Context → List ℕ → Answer
@@ -73,7 +62,7 @@ text_session g number text = judge (λ n. g.session) (late_rules text) (session_
 abbrev pub text_opened : Context → ℕ → List ℕ → Opened
 text_opened g number text = opened_as (text_answer g text) (text_session g number text)
 
--- an encrypted message, all of it: what judging, the cipher and settling come to
+-- an encrypted message, all of it: judged, deciphered, and judged again
 unfoldable pub sealed_answer : Context → ℕ → List ℕ → Answer
 sealed_answer g room p = judge refused_answer (uart_entry_rules g room p) (text_answer g (uart_text g p))
 

@@ -10,6 +10,7 @@ use crate::blocks::block_refusal;
 use crate::replies::characteristic_refusal;
 use crate::{CommandAnswer, Link, OpenedCommand, Place};
 use access::{Access, LevelRead};
+use aes::block_cipher::BlockCipher;
 use control::ControlRead;
 use wire::Part;
 
@@ -111,7 +112,7 @@ fn read_text(text: &[u8], level: u8, link: Link, number: u32) -> OpenedCommand
 }
 
 // The blocks of a packet into the work buffer, which has room for them.
-fn decipher(packet: &[u8], link: Link, work: &mut [u8])
+fn decipher<C: BlockCipher>(packet: &[u8], link: Link, work: &mut [u8])
     requires { first_broken (specs.packet_entry_rules link (length work.old) packet.now) ≡ 0 }
     ensures { work.new ≡ specs.packet_text link packet.now ++ drop (16 * blocks_in packet.now) work.old }
 {
@@ -121,7 +122,7 @@ fn decipher(packet: &[u8], link: Link, work: &mut [u8])
     let bytes = key.bytes;
     let connection = link.connection;
     let nonce = connection.nonce;
-    envelope::decipher(bytes, nonce, packet, work);
+    envelope::decipher::<C>(bytes, nonce, packet, work);
 }
 
 // A refusal leaves the first n work bytes zero.
@@ -135,14 +136,14 @@ fn clear_refused(answer: CommandAnswer, work: &mut [u8], n: usize)
 }
 
 // Opens a characteristic packet: the command and where its payload lies, or the refusal with its reply; and the connection session after it.
-pub fn open(packet: &[u8], link: Link, work: &mut [u8]) -> OpenedCommand
+pub fn open<C: BlockCipher>(packet: &[u8], link: Link, work: &mut [u8]) -> OpenedCommand
     ensures { specs.OpensPacket link packet.now work.old result work.new }
 {
     let early = entry_refusal(packet, work.len(), link);
     if early != 0 {
         return refused(early, link);
     }
-    decipher(packet, link, work);
+    decipher::<C>(packet, link, work);
     let n = packet.len() - 4;
     let blocks = Part { start: 0, len: n };
     let opened = read_text(

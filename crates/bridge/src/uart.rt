@@ -9,6 +9,7 @@ use crate::blocks::block_refusal;
 use crate::replies::refusal;
 use crate::{Answer, Context, Opened, Place};
 use access::Level;
+use aes::block_cipher::BlockCipher;
 use message::{Form, Message, MessageRead};
 use session::Session;
 use wire::Part;
@@ -172,7 +173,7 @@ fn read_text(text: &[u8], context: Context, number: u32) -> Opened
 }
 
 // The blocks of an encrypted message into the work buffer, which has room for them.
-fn decipher(payload: &[u8], context: Context, work: &mut [u8])
+fn decipher<C: BlockCipher>(payload: &[u8], context: Context, work: &mut [u8])
     requires { first_broken (specs.uart_entry_rules context (length work.old) payload.now) ≡ 0 }
     ensures { work.new ≡ specs.uart_text context payload.now ++ drop (16 * blocks_in payload.now) work.old }
 {
@@ -182,7 +183,7 @@ fn decipher(payload: &[u8], context: Context, work: &mut [u8])
     let bytes = key.bytes;
     let session = context.session;
     let nonce = session.nonce;
-    envelope::decipher(bytes, nonce, payload, work);
+    envelope::decipher::<C>(bytes, nonce, payload, work);
 }
 
 // A refusal leaves the first n work bytes zero.
@@ -196,7 +197,7 @@ fn clear_refused(answer: Answer, work: &mut [u8], n: usize)
 }
 
 // An encrypted message.
-fn open_sealed(payload: &[u8], context: Context, work: &mut [u8]) -> Opened
+fn open_sealed<C: BlockCipher>(payload: &[u8], context: Context, work: &mut [u8]) -> Opened
     ensures { (result ≡ opening.sealed_opened context (length work.old) payload.now)
         × (work.new ≡ opening.sealed_work context payload.now work.old) }
 {
@@ -204,7 +205,7 @@ fn open_sealed(payload: &[u8], context: Context, work: &mut [u8]) -> Opened
     if early != 0 {
         return refused(early, context);
     }
-    decipher(payload, context, work);
+    decipher::<C>(payload, context, work);
     let n = payload.len() - 4;
     let blocks = Part { start: 0, len: n };
     let opened = read_text(
@@ -218,7 +219,7 @@ fn open_sealed(payload: &[u8], context: Context, work: &mut [u8]) -> Opened
 }
 
 // Opens a frame: the message and where its payload lies, or the refusal with its reply; and the session after it. Any minor is accepted.
-pub fn open(
+pub fn open<C: BlockCipher>(
     major: u8,
     minor: u8,
     wrapper: u8,
@@ -232,7 +233,7 @@ pub fn open(
         return refused(5, context);
     }
     if wrapper == 128 {
-        return open_sealed(payload, context, work);
+        return open_sealed::<C>(payload, context, work);
     }
     if wrapper != 0 {
         return refused(6, context);

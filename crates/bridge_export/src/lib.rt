@@ -1,115 +1,12 @@
-// The opener of sealed messages for programs in other languages.
+// The opener of sealed messages, for programs in other languages.
 #![tactic(auto)]
 
 ghost use Rattle.std.specs.Prelude.{◌≡◌, length};
 ghost use Rattle.wire.specs.Parts.{part, part_of};
 ghost use Rattle.bridge.specs.Opener.{opened, work_after};
-ghost use Rattle.bridge_export.specs.Numbering.{packed, packed_command, packed_message, packed_answer, context_of};
+ghost use Rattle.numbering.specs.Numbering.{packed_answer, context_of};
 
-use access::Mode;
-use bridge::{Answer, Context};
-use control::Command;
-use message::Message;
-use session::{Key, Keys, NonceMemory, Session};
-use units::{Minutes, Seconds};
-use wire::Part;
-
-// The low two bytes of three numbers.
-fn pack(a: u64, b: u64, c: u64) -> u64
-    ensures { result ≡ packed a b c }
-{
-    a % 65536 + (65536 * (b % 65536) + 4294967296 * (c % 65536))
-}
-
-fn packed_command(c: Command) -> u64
-    ensures { result ≡ packed_command c }
-{
-    match c {
-        Command::Setup(f) => {
-            let rest = f.rest;
-            pack(1100, f.stone as u64, rest.len as u64)
-        }
-        Command::FactoryReset => pack(1101, 0, 0),
-        Command::GetState(f) => pack(1102, f.kind as u64, f.id as u64),
-        Command::SetState(f) => {
-            let value = f.value;
-            pack(1103, f.id as u64, value.len as u64)
-        }
-        Command::BootloaderVersion => pack(1104, 0, 0),
-        Command::UicrData => pack(1105, 0, 0),
-        Command::IbeaconConfig(f) => pack(1106, f.timestamp as u64, f.interval as u64),
-        Command::Reset => pack(1110, 0, 0),
-        Command::GotoDfu => pack(1111, 0, 0),
-        Command::NoOperation => pack(1112, 0, 0),
-        Command::Disconnect => pack(1113, 0, 0),
-        Command::Switch(value) => pack(1120, value as u64, 0),
-        Command::MultiSwitch(f) => {
-            let pairs = f.pairs;
-            pack(1121, f.count as u64, pairs.len as u64)
-        }
-        Command::RegisterTrackedDevice(f) => pack(1170, f.device as u64, f.token as u64),
-        Command::TrackedDeviceHeartbeat(f) => pack(1171, f.device as u64, f.token as u64),
-        Command::GetPresence => pack(1172, 0, 0),
-        Command::GetUptime => pack(1180, 0, 0),
-    }
-}
-
-fn packed_message(m: Message) -> u64
-    ensures { result ≡ packed_message m }
-{
-    match m {
-        Message::Hello(flags) => pack(1000, flags as u64, 0),
-        Message::SessionNonce(f) => {
-            let timeout = f.timeout;
-            let nonce = f.nonce;
-            pack(1001, timeout.0, nonce.0 as u64)
-        }
-        Message::Heartbeat(t) => pack(1002, t.0, 0),
-        Message::Status(f) => pack(1003, f.kind as u64, f.flags as u64),
-        Message::GetMac => pack(1004, 0, 0),
-        Message::Control(c) => packed_command(c),
-        Message::HubReply(f) => {
-            let data = f.data;
-            pack(1011, f.code as u64, data.len as u64)
-        }
-    }
-}
-
-fn packed_answer(a: Answer) -> u64
-    ensures { result ≡ packed_answer a }
-{
-    match a {
-        Answer::Accepted(m, _) => packed_message(m),
-        Answer::Refused(r) => r.number as u64,
-    }
-}
-
-// A session that remembers no packet nonce.
-fn context(key: [u8; 16], nonce: [u8; 5], minutes: u64, since: u64, time: u64) -> Context
-    ensures { result ≡ context_of key nonce minutes since time }
-{
-    Context {
-        session: Session {
-            held: true,
-            nonce,
-            timeout: Minutes(minutes),
-            since: Seconds(since),
-            memory: NonceMemory::empty(),
-        },
-        time: Seconds(time),
-        keys: Keys {
-            admin: Key {
-                held: true,
-                bytes: key,
-            },
-            member: Key::none(),
-            basic: Key::none(),
-            setup: Key::none(),
-        },
-        mode: Mode::Normal,
-        required: false,
-    }
-}
+use aes::Small;
 
 // Opens the first bytes of a payload as an encrypted message. The session after it is not handed out: each call begins with one that remembers nothing.
 #[unsafe(no_mangle)]
@@ -126,9 +23,5 @@ pub extern "C" fn cloudgraze_open(
     ensures { (result ≡ packed_answer (opened (context_of key.now nonce.now minutes since time) (length work.old) 1 128 (part_of payload.now (part 0 len))).answer)
         × (work.new ≡ work_after (context_of key.now nonce.now minutes since time) 1 128 (part_of payload.now (part 0 len)) work.old) }
 {
-    let given = context(*key, *nonce, minutes, since, time);
-    let front = wire::part_of(payload, Part { start: 0, len });
-    let r = bridge::uart::open(1, 0, 128, front, given, work);
-    let answer = r.answer;
-    packed_answer(answer)
+    numbering::open::<Small>(key, nonce, minutes, since, time, payload, len, work)
 }

@@ -4,7 +4,7 @@
 ghost use Rattle.wire.specs.Parts.{part, part_of};
 ghost use Rattle.numbering.specs.Numbering.{context_of, Exported};
 
-use wire::Part;
+use aes::Small;
 
 // Opens the first bytes of a payload as an encrypted message. The session after it is not handed out: each call begins with one that remembers nothing.
 #[unsafe(no_mangle)]
@@ -20,9 +20,5 @@ pub extern "C" fn cloudgraze_small_open(
 ) -> u64
     ensures { Exported (context_of key.now nonce.now minutes since time) (part_of payload.now (part 0 len)) work.old result work.new }
 {
-    let given = numbering::context(*key, *nonce, minutes, since, time);
-    let front = wire::part_of(payload, Part { start: 0, len });
-    let r = bridge_small::uart::open(1, 0, 128, front, given, work);
-    let answer = r.answer;
-    numbering::packed_answer(answer)
+    numbering::open::<Small>(key, nonce, minutes, since, time, payload, len, work)
 }

@@ -10,6 +10,7 @@ mod opening;
 mod phone;
 
 use access::Mode;
+use aes::Small;
 use session::{Connection, Key, Keys};
 use std::io;
 use text::reading;
@@ -153,7 +154,7 @@ fn sealed<R: Print>(
     let session = session_of(reading::number(v));
     let nonce = nonce(reading::field(v, b' ', 1));
     let mut room = [0u8; 512];
-    match envelope::seal(keys(), Mode::Normal, nonce, session, message, &mut room) {
+    match envelope::seal::<Small>(keys(), Mode::Normal, nonce, session, message, &mut room) {
         Written::Wrote(n) => framed(
             rt,
             line,

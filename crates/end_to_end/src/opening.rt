@@ -1,5 +1,6 @@
 // The line received, and each frame opened: one line of output each.
 use access::Mode;
+use aes::Small;
 use bridge::{Answer, Context, Place, Refusal, Reply};
 use line::{Event, Progress, Receiver};
 use session::Session;
@@ -100,7 +101,7 @@ fn open<R: Print>(
         mode: Mode::Normal,
         required: false,
     };
-    let opened = bridge::uart::open(major, minor, wrapper, payload, context, &mut work);
+    let opened = bridge::uart::open::<Small>(major, minor, wrapper, payload, context, &mut work);
     let answer = opened.answer;
     show(rt, answer, payload, &work)?;
     let after = opened.session;

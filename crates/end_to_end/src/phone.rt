@@ -1,5 +1,6 @@
 // Control packets as a phone sends them: sealed with a level's key, and opened. Numbers: the level, the mode n or s, the packet nonce's number.
 use access::{Level, LevelRead, Mode};
+use aes::Small;
 use bridge::{CommandAnswer, Link};
 use session::{Connection, Key, Keys, NonceMemory};
 use std::io;
@@ -115,7 +116,7 @@ fn seal(
 ) -> Written {
     let session = connection.nonce;
     let validation = connection.validation;
-    envelope::seal_characteristic(keys(), mode, level, nonce, session, validation, bytes, room)
+    envelope::seal_characteristic::<Small>(keys(), mode, level, nonce, session, validation, bytes, room)
 }
 
 fn open(out: &mut [u8], at: usize, packet: &[u8], connection: Connection, mode: Mode) -> Answered {
@@ -125,7 +126,7 @@ fn open(out: &mut [u8], at: usize, packet: &[u8], connection: Connection, mode: 
         keys: keys(),
         mode,
     };
-    let opened = bridge::characteristic::open(packet, link, &mut work);
+    let opened = bridge::characteristic::open::<Small>(packet, link, &mut work);
     let answer = opened.answer;
     let end = show(out, at, answer, packet, &work);
     let after = opened.connection;

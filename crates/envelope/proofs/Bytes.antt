@@ -1,14 +1,13 @@
 -- Laws on bytes for the functions that open: zeros, the first three bytes, a buffer cleared. Assumes nothing.
-use mathlib.Core.Path.{◌≡◌, ap, ◌∙◌}
+use mathlib.Core.Path.{◌≡◌}
 use mathlib.Core.Bool.{true, ◌&&◌}
-use mathlib.Core.List.{List, [], ◌∷◌, ◌++◌}
-use Prim.Native.Nat.{ℕ, zero, suc, ◌+◌, ◌≤◌, ◌<◌, min}
+use mathlib.Core.List.{List, [], ◌∷◌}
+use Prim.Native.Nat.{ℕ, ◌+◌, ◌≤◌, ◌<◌}
 use native.Mathlib.Numerals.{add-one}
 use native.Mathlib.Omega.{arith}
-use lib.ListN.{length, get_or, take, drop, replicate, drop_of_length-le}
+use lib.ListN.{length, get_or, take, drop, drop_of_length-le}
 use lib.Seq.{drop-cons, take-suc}
 use lib.Dec.{eqb}
-use Rattle.envelope.specs.Blocks.{cleared}
 use Rattle.envelope.specs.Characteristic.{all_zero}
 
 -- ---- zeros from a place on: one byte, and the end
@@ -23,18 +22,3 @@ zero_end s i h = rw (drop_of_length-le s h)
 -- ---- the first three bytes
 pub three : (s : List ℕ) → 3 ≤ length s → take 3 s ≡ get_or s 0 0 ∷ get_or s 1 0 ∷ get_or s 2 0 ∷ []
 three s h = rw (take-suc s 2 0 h, take-suc s 1 0 (omega arith), take-suc s 0 0 (omega arith))
-
--- ---- a buffer cleared
-drop_same : (s : List ℕ) (n i : ℕ) → i ≡ min n (length s) → drop i s ≡ drop n s
-drop_same [] zero i e =
-    let d : i ≡ 0 = omega arith in
-    rw d
-drop_same [] (suc n) i e = drop_of_length-le [] {i = i} (omega arith)
-drop_same (a ∷ s) zero i e =
-    let d : i ≡ 0 = omega arith in
-    rw d
-drop_same (a ∷ s) (suc n) zero e = absurd (omega arith)
-drop_same (a ∷ s) (suc n) (suc i) e = drop_same s n i (omega arith)
-
-pub cleared_end : (s : List ℕ) (n i : ℕ) → i ≡ min n (length s) → replicate i 0 ++ drop i s ≡ cleared n s
-cleared_end s n i e = ap (λ (l : List ℕ). replicate i 0 ++ l) (drop_same s n i e) ∙ ap (λ (k : ℕ). replicate k 0 ++ drop n s) e

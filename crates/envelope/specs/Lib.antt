@@ -1,4 +1,3 @@
 pub mod Blocks
 pub mod Sealed
 pub mod Characteristic
-pub mod Draft

@@ -1,39 +1,21 @@
 // Encrypted UART messages and characteristic packets: sealing, and the parts of opening that depend on their layout.
 #![tactic(auto)]
 
-mod drafts;
 mod opening;
 mod sealing;
 
 ghost use Rattle.std.specs.Prelude.{◌≡◌};
-ghost use Rattle.envelope.specs.Blocks.{outside as outsideOf};
+ghost use Rattle.envelope.specs.Blocks.{outside};
 
-pub use drafts::{draft_message, draft_packet, write_front};
 pub use opening::{
     blocks, blocks_in, clear, decipher, judge_characteristic, judge_length, judge_nonce,
     judge_room, judge_text, message_in, nonce_number, packet_in, packet_nonce,
 };
 pub use sealing::{seal, seal_characteristic};
 
-// What the cipher of a sealer is given, or why it is not run.
-#[derive(Clone, Copy)]
-pub struct Draft {
-    // A refusal's number; 0 for none.
-    pub number: u8,
-    pub key: [u8; 16],
-    // The key ID, or the user level's number.
-    pub id: u8,
-    // How many bytes of the text there are: whole blocks.
-    pub len: usize,
-    pub text: [u8; 496],
-}
-
 // Whether a length is below the least or above the most.
 fn outside(least: usize, most: usize, n: usize) -> bool
-    ensures { result ≡ outsideOf least most n }
+    ensures { result ≡ outside least most n }
 {
-    if n < least {
-        return true;
-    }
-    most < n
+    n < least || most < n
 }

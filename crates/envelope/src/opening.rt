@@ -1,5 +1,5 @@
 // Blocks deciphered into a work buffer and judged. Each judge gives the number of the first rule that is broken, 0 where none is.
-ghost use Rattle.std.specs.Prelude.{◌≡◌, ◌∷◌, [], ◌≤◌, min, take, drop};
+ghost use Rattle.std.specs.Prelude.{◌≡◌, ◌∷◌, [], ◌≤◌, take, drop};
 ghost use Rattle.wire.specs.Rules.{first_broken};
 ghost use Rattle.wire.specs.Same.{same_bytes};
 ghost use Rattle.wire.specs.Writing.{Stores, no_room};
@@ -8,6 +8,7 @@ ghost use Rattle.envelope.specs.Sealed.{message_size, message_misfit, late_rules
 ghost use Rattle.envelope.specs.Characteristic.{packet_size, packet_misfit, all_zero, characteristic_rules, packet_in};
 
 use crate::outside;
+use aes::block_cipher::BlockCipher;
 use session::NonceMemory;
 use wire::{Part, Written};
 
@@ -29,10 +30,7 @@ pub fn judge_length(payload: &[u8]) -> u8
 pub fn blocks_in(payload: &[u8]) -> usize
     ensures { result ≡ blocks_in payload.now }
 {
-    if payload.len() < 4 {
-        return 0;
-    }
-    (payload.len() - 4) / 16
+    payload.len().saturating_sub(4) / 16
 }
 
 // 25, for a work buffer of so many bytes.
@@ -63,7 +61,12 @@ pub fn judge_nonce(memory: NonceMemory, payload: &[u8]) -> u8
 }
 
 // The payload's blocks deciphered, at the front of the work buffer; 25 where they do not fit.
-pub fn decipher(key: [u8; 16], nonce: [u8; 5], payload: &[u8], work: &mut [u8]) -> Written
+pub fn decipher<C: BlockCipher>(
+    key: [u8; 16],
+    nonce: [u8; 5],
+    payload: &[u8],
+    work: &mut [u8],
+) -> Written
     ensures { Stores (no_room 0 (deciphered key nonce payload.now) work.old ∷ []) 0
         (deciphered key nonce payload.now) work.old result work.new }
 {
@@ -71,7 +74,7 @@ pub fn decipher(key: [u8; 16], nonce: [u8; 5], payload: &[u8], work: &mut [u8]) 
         return Written::Wrote(0);
     }
     let packet_nonce = [payload[0], payload[1], payload[2]];
-    aes::apply_ctr(key, packet_nonce, nonce, &payload[4..], work)
+    aes::ctr::apply_ctr::<C>(key, packet_nonce, nonce, &payload[4..], work)
 }
 
 // The bytes of the packet nonce; one past the end counts as 0.
@@ -171,7 +174,7 @@ fn not_least(text: &[u8], size: usize) -> bool
     requires { size ≤ 70000 }
     ensures { result ≡ not_least text.now size }
 {
-    text.len() != 16 * ((size + 15) / 16)
+    text.len() != 16 * aes::blocks_for(size)
 }
 
 // Whether the bytes from a place on are zero.
@@ -224,16 +227,6 @@ pub fn packet_in(text: &[u8]) -> &[u8]
 pub fn clear(work: &mut [u8], n: usize)
     ensures { work.new ≡ cleared n work.old }
 {
-    let end = least(n, work.len());
-    let mut i: usize = 0;
-    while i < end {
-        work[i] = 0;
-        i += 1;
-    }
-}
-
-fn least(a: usize, b: usize) -> usize
-    ensures { result ≡ min a b }
-{
-    if a < b { a } else { b }
+    let end = n.min(work.len());
+    work[..end].fill(0);
 }

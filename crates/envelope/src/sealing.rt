@@ -6,17 +6,18 @@ ghost use Rattle.wire.specs.Writing.{Stores, no_room, placed};
 ghost use Rattle.aes.specs.Ctr.{blocks_for};
 ghost use Rattle.access.specs.Level.{level_number};
 ghost use Rattle.session.specs.Keys.{key_for};
-ghost use Rattle.envelope.specs.Blocks.{padded, enveloped, outside as outsideOf, Seals};
+ghost use Rattle.envelope.specs.Blocks.{padded, enveloped, outside, Seals};
 ghost use Rattle.envelope.specs.Sealed.{sealed_image};
 ghost use Rattle.envelope.specs.Characteristic.{characteristic_image};
 
 use crate::outside;
 use access::{Level, Mode};
+use aes::block_cipher::BlockCipher;
 use session::{Key, Keys};
 use wire::Written;
 
 // The encrypted wrapper payload of a message: 17, 25, 10.
-pub fn seal(
+pub fn seal<C: BlockCipher>(
     keys: Keys,
     mode: Mode,
     packet_nonce: [u8; 3],
@@ -24,7 +25,7 @@ pub fn seal(
     message: &[u8],
     out: &mut [u8],
 ) -> Written
-    ensures { Seals (key_for keys mode Level.Admin) (outsideOf 2 490 (length message.now))
+    ensures { Seals (key_for keys mode Level.Admin) (outside 2 490 (length message.now))
         (sealed_image (key_for keys mode Level.Admin).bytes packet_nonce session_nonce message.now) out.old result out.new }
 {
     let size = message.len();
@@ -33,11 +34,11 @@ pub fn seal(
     }
     let key = keys.serving(mode, Level::Admin);
     let head = header(size as u16);
-    envelop(key, packet_nonce, session_nonce, 0, &head, message, out)
+    envelop::<C>(key, packet_nonce, session_nonce, 0, &head, message, out)
 }
 
 // The characteristic packet of a control packet: 17, 25, 10.
-pub fn seal_characteristic(
+pub fn seal_characteristic<C: BlockCipher>(
     keys: Keys,
     mode: Mode,
     level: Level,
@@ -47,7 +48,7 @@ pub fn seal_characteristic(
     packet: &[u8],
     out: &mut [u8],
 ) -> Written
-    ensures { Seals (key_for keys mode level) (outsideOf 5 492 (length packet.now))
+    ensures { Seals (key_for keys mode level) (outside 5 492 (length packet.now))
         (characteristic_image (key_for keys mode level).bytes packet_nonce session_nonce (level_number level) validation packet.now) out.old result out.new }
 {
     let size = packet.len();
@@ -56,7 +57,7 @@ pub fn seal_characteristic(
     }
     let key = keys.serving(mode, level);
     let number = access::level_number(level);
-    envelop(
+    envelop::<C>(
         key,
         packet_nonce,
         session_nonce,
@@ -68,7 +69,7 @@ pub fn seal_characteristic(
 }
 
 // CAFEBABE and the message's size.
-pub(crate) fn header(size: u16) -> [u8; 6]
+fn header(size: u16) -> [u8; 6]
     ensures { result ≡ le 4 0xCAFEBABE ++ le 2 size }
 {
     let bytes = wire::u16_bytes(size);
@@ -76,7 +77,7 @@ pub(crate) fn header(size: u16) -> [u8; 6]
 }
 
 // Packet nonce, key ID or level, and the blocks of head, body and padding: 25, 10.
-fn envelop(
+fn envelop<C: BlockCipher>(
     key: Key,
     packet_nonce: [u8; 3],
     session_nonce: [u8; 5],
@@ -89,19 +90,19 @@ fn envelop(
     ensures { Stores (no_room 0 (enveloped key.bytes packet_nonce session_nonce id (padded (head.now ++ body.now))) out.old ∷ (10 when not key.held) ∷ []) 0
         (enveloped key.bytes packet_nonce session_nonce id (padded (head.now ++ body.now))) out.old result out.new }
 {
-    let n = 16 * ((head.len() + body.len() + 15) / 16);
+    let n = 16 * aes::blocks_for(head.len() + body.len());
     if out.len() < 4 + n {
         return Written::Refused(25);
     }
     if key.held {
         let bytes = key.bytes;
-        write_blocks(bytes, packet_nonce, session_nonce, id, n, head, body, out);
+        write_blocks::<C>(bytes, packet_nonce, session_nonce, id, n, head, body, out);
         return Written::Wrote(4 + n);
     }
     Written::Refused(10)
 }
 
-fn write_blocks(
+fn write_blocks<C: BlockCipher>(
     key: [u8; 16],
     packet_nonce: [u8; 3],
     session_nonce: [u8; 5],
@@ -117,11 +118,11 @@ fn write_blocks(
     let text = with_zeros(head, body);
     let front = [packet_nonce[0], packet_nonce[1], packet_nonce[2], id];
     wire::store(&front, 0, out);
-    aes::apply_ctr(key, packet_nonce, session_nonce, &text[..n], &mut out[4..]);
+    aes::ctr::apply_ctr::<C>(key, packet_nonce, session_nonce, &text[..n], &mut out[4..]);
 }
 
 // Head and body, and zero behind them.
-pub(crate) fn with_zeros(head: &[u8], body: &[u8]) -> [u8; 496]
+fn with_zeros(head: &[u8], body: &[u8]) -> [u8; 496]
     requires { length head.now + length body.now ≤ 496 }
     ensures { result ≡ (head.now ++ body.now) ++ replicate (496 - (length head.now + length body.now)) 0 }
 {

@@ -1,15 +1,18 @@
-// What the exports of both builds share: an opener's answer as one number, and the context that it is given.
+// The opener of sealed messages for programs in other languages, over any block cipher: an answer as one number, and the context that it is given.
 #![tactic(auto)]
 
 ghost use Rattle.std.specs.Prelude.{◌≡◌};
-ghost use Rattle.numbering.specs.Numbering.{packed, packed_command, packed_message, packed_answer, context_of};
+ghost use Rattle.wire.specs.Parts.{part, part_of};
+ghost use Rattle.numbering.specs.Numbering.{packed, packed_command, packed_message, packed_answer, context_of, Exported};
 
 use access::Mode;
+use aes::block_cipher::BlockCipher;
 use bridge::{Answer, Context};
 use control::Command;
 use message::Message;
 use session::{Key, Keys, NonceMemory, Session};
 use units::{Minutes, Seconds};
+use wire::Part;
 
 // The low two bytes of three numbers.
 fn pack(a: u64, b: u64, c: u64) -> u64
@@ -107,4 +110,24 @@ pub fn context(key: [u8; 16], nonce: [u8; 5], minutes: u64, since: u64, time: u6
         mode: Mode::Normal,
         required: false,
     }
+}
+
+// The first bytes of a payload, opened as an encrypted message. The session after it is not handed out: each call begins with one that remembers nothing.
+pub fn open<C: BlockCipher>(
+    key: &[u8; 16],
+    nonce: &[u8; 5],
+    minutes: u64,
+    since: u64,
+    time: u64,
+    payload: &[u8; 512],
+    len: usize,
+    work: &mut [u8; 496],
+) -> u64
+    ensures { Exported (context_of key.now nonce.now minutes since time) (part_of payload.now (part 0 len)) work.old result work.new }
+{
+    let given = context(*key, *nonce, minutes, since, time);
+    let front = wire::part_of(payload, Part { start: 0, len });
+    let opened = bridge::uart::open::<C>(1, 0, 128, front, given, work);
+    let answer = opened.answer;
+    packed_answer(answer)
 }

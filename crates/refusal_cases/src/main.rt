@@ -21,6 +21,7 @@
 mod answer;
 mod given;
 
+use aes::Small;
 use session::{Connection, Session};
 use std::io;
 use text::reading;
@@ -49,7 +50,7 @@ fn open_frame(
 ) -> AfterFrame {
     let mut head = [0u8; 3];
     reading::bytes(&mut head, 0, reading::field(line, b'|', 5));
-    let opened = bridge::uart::open(
+    let opened = bridge::uart::open::<Small>(
         head[0],
         head[1],
         head[2],
@@ -71,7 +72,7 @@ fn open_packet(
     at: usize,
     work: &mut [u8],
 ) -> AfterPacket {
-    let opened = bridge::characteristic::open(packet, given::link(line), work);
+    let opened = bridge::characteristic::open::<Small>(packet, given::link(line), work);
     let answer = opened.answer;
     let end = answer::command(out, at, answer, packet, work);
     let connection = opened.connection;

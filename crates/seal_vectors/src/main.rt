@@ -6,6 +6,7 @@
 ghost use Rattle.std.specs.Prelude.{◌≡◌, ◌≤◌, ◌<◌, length};
 
 use access::{Level, LevelRead, Mode};
+use aes::Small;
 use session::{Key, Keys};
 use std::io;
 use text::reading;
@@ -114,7 +115,7 @@ fn seal(c: Case, content: &[u8], out: &mut [u8]) -> Written {
     let level = c.level;
     let keys = c.keys;
     if c.packet {
-        return envelope::seal_characteristic(
+        return envelope::seal_characteristic::<Small>(
             keys,
             mode,
             level,
@@ -125,7 +126,7 @@ fn seal(c: Case, content: &[u8], out: &mut [u8]) -> Written {
             out,
         );
     }
-    envelope::seal(keys, mode, nonce, SESSION_NONCE, content, out)
+    envelope::seal::<Small>(keys, mode, nonce, SESSION_NONCE, content, out)
 }
 
 // The blocks of an image deciphered, how many bytes: none where it is refused.
@@ -141,7 +142,7 @@ fn deciphered(c: Case, image: &[u8], work: &mut [u8]) -> usize {
     let keys = c.keys;
     let key = keys.serving(mode, level);
     let bytes = key.bytes;
-    let Written::Wrote(len) = envelope::decipher(bytes, SESSION_NONCE, image, work) else {
+    let Written::Wrote(len) = envelope::decipher::<Small>(bytes, SESSION_NONCE, image, work) else {
         return 0;
     };
     len

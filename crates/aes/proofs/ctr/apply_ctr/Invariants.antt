@@ -1,10 +1,6 @@
--- `aes::ctr::apply_ctr` meets its contract. Assumes nothing.
-use Prim.Native.Nat.{◌-◌}
+-- The room holds the bytes summed with the key stream of i blocks. Assumes nothing.
 use Rattle.aes.proofs.Loops.{Summed}
 use Rattle.aes.proofs.ctr.apply_ctr.Given as goal
 
 abbrev pub invariant-loop-i : goal.invariant-loop-i
-invariant-loop-i l = Summed l.packet_nonce l.session_nonce l.src l.initial.out l.keys l.blocks l.out l.i
-
-abbrev pub decreases-loop-i : goal.decreases-loop-i
-decreases-loop-i l = l.blocks - l.i
+invariant-loop-i g l = Summed l.packet_nonce l.session_nonce l.src l.initial.out l.keys l.blocks l.out l.i

@@ -9,7 +9,7 @@ use Rattle.bridge.proofs.characteristic.decipher.Goals as goal
 
 pub returns : goal.returns
 unfolding packet_text
-returns c =
+returns g c =
     let s = c in
     let a = s.args in
     let p = a.packet.now in

@@ -13,18 +13,18 @@ use Rattle.bridge.proofs.Commands.{whole, long, answered_after, refused_before}
 use Rattle.bridge.proofs.characteristic.open.Goals as goal
 
 pub returns-then-early-ne0 : goal.returns-then-early-ne0
-returns-then-early-ne0 c =
+returns-then-early-ne0 g c =
     let a = c.args in
     let r = refused_before a.link a.packet.now a.work.now c.entry_refusal-early.ensures c.if-early-ne0.true in
     opens_packet a.link a.packet.now a.work.now (c.refused.ensures ∙ r.0) r.1
 
 pub overflow_sub-n : goal.overflow_sub-n
-overflow_sub-n c =
+overflow_sub-n g c =
     let a = c.args in
     omega (arith, (whole a.link a.packet.now a.work.now (sym c.entry_refusal-early.ensures ∙ c.if-early-ne0.false)).0)
 
 pub returns : goal.returns
-returns c =
+returns g c =
     let r = c in
     let f = r in
     let h = f in

@@ -7,7 +7,7 @@ use Rattle.bridge.proofs.uart.decipher.Goals as goal
 
 pub returns : goal.returns
 unfolding uart_text
-returns c =
+returns g c =
     let s = c in
     let a = s.args in
     let p = a.payload.now in

@@ -6,13 +6,13 @@ use Rattle.bridge.proofs.Contents.{opens_frame}
 use Rattle.bridge.proofs.uart.open.Goals as goal
 
 pub returns-then-major-ne1 : goal.returns-then-major-ne1
-returns-then-major-ne1 c =
+returns-then-major-ne1 g c =
     let a = c.args in
     let r = wrong_major a.context (length a.work.now) a.major a.wrapper a.payload.now a.work.now c.if-major-ne1.true in
     opens_frame a.context a.major a.wrapper a.payload.now a.work.now (c.refused.ensures ∙ r.0) r.1
 
 pub returns-then-wrapper-eq128 : goal.returns-then-wrapper-eq128
-returns-then-wrapper-eq128 c =
+returns-then-wrapper-eq128 g c =
     let d = c in
     let a = d.args in
     let s = c.open_sealed.ensures in
@@ -21,14 +21,14 @@ returns-then-wrapper-eq128 c =
     (s.1 ∙ sealed_left a.context a.payload.now a.work.now))
 
 pub returns-then-wrapper-ne0 : goal.returns-then-wrapper-ne0
-returns-then-wrapper-ne0 c =
+returns-then-wrapper-ne0 g c =
     let d = c in
     let a = d.args in
     let r = wrong_wrapper a.context (length a.work.now) a.wrapper a.payload.now a.work.now c.if-wrapper-eq128.false c.if-wrapper-ne0.true in
     rw d.if-major-ne1.false (opens_frame a.context 1 a.wrapper a.payload.now a.work.now (c.refused-then-wrapper-ne0.ensures ∙ r.0) r.1)
 
 pub returns : goal.returns
-returns c =
+returns g c =
     let d = c in
     let a = d.args in
     rw (d.if-major-ne1.false, c.if-wrapper-ne0.false)

@@ -10,7 +10,7 @@ use Rattle.envelope.proofs.sealing.seal.Goals as goal
 
 pub returns : goal.returns
 unfolding sealed_image plain_text
-returns c =
+returns g c =
     let a = c.args in
     sealed_as a.packet_nonce a.session_nonce a.out.now (outside 2 490 (length a.message.now)) (sym c.outside.ensures ∙ c.if-outside.false)
     c.serving-key.ensures refl (ap (λ (h : List ℕ). padded (h ++ a.message.now)) c.header-head.ensures) c.envelop.ensures

@@ -8,7 +8,7 @@ use Rattle.envelope.proofs.sealing.seal_characteristic.Goals as goal
 
 pub returns : goal.returns
 unfolding characteristic_image characteristic_text
-returns c =
+returns g c =
     let a = c.args in
     sealed_as a.packet_nonce a.session_nonce a.out.now (outside 5 492 (length a.packet.now)) (sym c.outside.ensures ∙ c.if-outside.false)
     c.serving-key.ensures c.level_number-number.ensures refl c.envelop.ensures
