@@ -6,9 +6,9 @@ mod memory;
 ghost use Rattle.std.specs.Prelude.{◌≡◌};
 ghost use Rattle.session.specs.Session.{memory_after, no_session, session_there, with_nonce, whole_minutes, valid_at, session_remembering};
 ghost use Rattle.session.specs.Session.{no_connection, connection_there, with_data, connection_remembering};
-ghost use Rattle.session.specs.Keys.{no_key, key_for, key_for_number};
+ghost use Rattle.session.specs.Keys.{key_for, key_for_number};
 
-use access::{Level, LevelRead, Mode};
+use access::{Level, Mode};
 use units::{Minutes, Seconds};
 
 // The packet nonces of the last encrypted messages that passed all of 10 to 13, each a number of three bytes.
@@ -39,19 +39,13 @@ pub struct Connection {
     pub memory: NonceMemory,
 }
 
-// A key that may be absent.
-#[derive(Clone, Copy)]
-pub struct Key {
-    pub held: bool,
-    pub bytes: [u8; 16],
-}
-
+// The keys that are held.
 #[derive(Clone, Copy)]
 pub struct Keys {
-    pub admin: Key,
-    pub member: Key,
-    pub basic: Key,
-    pub setup: Key,
+    pub admin: Option<[u8; 16]>,
+    pub member: Option<[u8; 16]>,
+    pub basic: Option<[u8; 16]>,
+    pub setup: Option<[u8; 16]>,
 }
 
 // The one function that converts between the units, for `valid_at`: minutes that have passed whole. Downwards, so that no number overflows.
@@ -192,69 +186,24 @@ impl Connection {
     }
 }
 
-impl Key {
-    pub fn none() -> Key
-        ensures { result ≡ no_key }
-    {
-        Key {
-            held: false,
-            bytes: [0; 16],
-        }
-    }
-}
-
 impl Keys {
-    // The key that serves a level in a mode, not held where none does.
-    pub fn serving(self, mode: Mode, level: Level) -> Key
+    // The key that serves a level in a mode.
+    pub fn serving(self, mode: Mode, level: Level) -> Option<[u8; 16]>
         ensures { result ≡ key_for self mode level }
     {
-        match mode {
-            Mode::Normal => self.in_normal(level),
-            Mode::Setup => self.in_setup(level),
+        match (mode, level) {
+            (Mode::Normal, Level::Admin) => self.admin,
+            (Mode::Normal, Level::Member) => self.member,
+            (Mode::Normal, Level::Basic) => self.basic,
+            (Mode::Setup, Level::Setup) => self.setup,
+            _ => None,
         }
     }
 
-    fn in_normal(self, level: Level) -> Key
-        ensures { result ≡ key_for self Mode.Normal level }
-    {
-        match level {
-            Level::Admin => {
-                let key = self.admin;
-                key
-            }
-            Level::Member => {
-                let key = self.member;
-                key
-            }
-            Level::Basic => {
-                let key = self.basic;
-                key
-            }
-            Level::Setup => Key::none(),
-        }
-    }
-
-    fn in_setup(self, level: Level) -> Key
-        ensures { result ≡ key_for self Mode.Setup level }
-    {
-        match level {
-            Level::Admin => Key::none(),
-            Level::Member => Key::none(),
-            Level::Basic => Key::none(),
-            Level::Setup => {
-                let key = self.setup;
-                key
-            }
-        }
-    }
-
-    // The key that serves the level with a number in a mode, not held where none does.
-    pub fn serving_number(self, mode: Mode, number: u8) -> Key
+    // The key that serves the level with a number in a mode.
+    pub fn serving_number(self, mode: Mode, number: u8) -> Option<[u8; 16]>
         ensures { result ≡ key_for_number self mode number }
     {
-        match access::level_of(number) {
-            LevelRead::Known(level) => self.serving(mode, level),
-            LevelRead::Unknown => Key::none(),
-        }
+        self.serving(mode, access::level_of(number)?)
     }
 }
