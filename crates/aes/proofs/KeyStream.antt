@@ -9,8 +9,9 @@ use lib.ListN.{length, get_or, take, drop, set, length-set, length-append, lengt
 use lib.Seq.{sets, set_out, take-nil, get_or-drop}
 use borrow.Author.Tests.{le-ltb}
 use Rattle.wire.specs.Writing.{Stores, no_room}
-use Rattle.wire.specs.declared.Written.{Written}
-use Rattle.wire.specs.declared.Written.TheVariants.{Wrote}
+use Rattle.std.specs.Prelude.{Result}
+use Rattle.wire.specs.declared.refusals.Refusal.{Refusal}
+use Rattle.std.specs.Prelude.{Ok}
 use Rattle.wire.proofs.Xor.{xor_twice}
 use Rattle.wire.proofs.Lists.{sets_then, copy_more}
 use Rattle.aes.specs.Field.{◌⊕◌}
@@ -77,9 +78,9 @@ module _ (key pn sn : List ℕ) where
   ctr_twice s = rw (length_ctr s) (xors_twice s (keystream key pn sn (blocks_for (length s))) (enough s))
 
   -- what `apply_ctr` answers and leaves where there is room
-  pub ctr_stored : (s room : List ℕ) {answer : Written} {after : List ℕ} → length s ≤ length room
+  pub ctr_stored : (s room : List ℕ) {answer : Result ℕ Refusal} {after : List ℕ} → length s ≤ length room
       → Stores (no_room 0 (ctr_of key pn sn s) room ∷ []) 0 (ctr_of key pn sn s) room answer after
-      → (answer ≡ Wrote (length s)) × (after ≡ ctr_of key pn sn s ++ drop (length s) room)
+      → (answer ≡ Ok (length s)) × (after ≡ ctr_of key pn sn s ++ drop (length s) room)
   ctr_stored s room h w =
       let e : 0 + length (ctr_of key pn sn s) ≡ length s = omega (arith, length_ctr s) in
       (w.answers ∙ rw (e, le-ltb _ _ h, length_ctr s), w.leaves ∙ rw (e, le-ltb _ _ h))

@@ -8,7 +8,8 @@ use lib.ListN.{length, get_or, set, drop, replicate, length-set}
 use lib.Seq.{sets}
 use borrow.Author.Count.{below_more, below_none}
 use Rattle.wire.specs.Writing.{Stores, no_room}
-use Rattle.wire.specs.declared.Written.TheVariants.{Wrote, Refused}
+use Rattle.wire.specs.Refusals.{refusing}
+use Rattle.std.specs.Prelude.{Ok}
 use Rattle.wire.proofs.Writing.{stores_short, stores_made}
 use Rattle.aes.specs.Field.{xtime}
 use Rattle.aes.specs.Cipher.{to_state, of_state, sub_bytes, shift_rows, add_round_key, rcon, next_key, round_key, key_expansion, round, rounds, cipher_under, cipher}
@@ -81,12 +82,12 @@ module _ (pn sn src room : List ℕ) where
     l ∙ inv.2,
   )
 
-  pub no_room_lem : (key : List ℕ) → length room < length src → Stores (no_room 0 (ctr_of key pn sn src) room ∷ []) 0 (ctr_of key pn sn src) room (Refused 25) room
+  pub no_room_lem : (key : List ℕ) → length room < length src → Stores (no_room 0 (ctr_of key pn sn src) room ∷ []) 0 (ctr_of key pn sn src) room (refusing 25) room
   no_room_lem key h = stores_short 0 (ctr_of key pn sn src) room (omega (arith, length_ctr key pn sn src))
 
   pub all_summed : (key : List ℕ) {keys : List (List ℕ)} {blocks i : ℕ} {out : List ℕ} → length src ≤ length room → keys ≡ key_expansion key
       → Summed keys blocks out i → blocks ≡ blocks_for (length src) → blocks ≤ i
-      → Stores (no_room 0 (ctr_of key pn sn src) room ∷ []) 0 (ctr_of key pn sn src) room (Wrote (length src)) out
+      → Stores (no_room 0 (ctr_of key pn sn src) room ∷ []) 0 (ctr_of key pn sn src) room (Ok (length src)) out
   all_summed key {i = i} h k inv n e =
       stores_made 0 (ctr_of key pn sn src) room (omega (arith, length_ctr key pn sn src))
       (inv.1 key k ∙ ctr_end key pn sn src room i (omega arith)) (sym (length_ctr key pn sn src))

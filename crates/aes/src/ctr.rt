@@ -5,7 +5,7 @@ ghost use Rattle.wire.specs.Writing.{Stores, no_room};
 ghost use Rattle.aes.specs.Ctr.{xors, counter_block, blocks_for, ctr_of};
 
 use super::block_cipher::{BlockCipher, encrypt_block, expand_key};
-use wire::{Written, count_from};
+use wire::{Refusal, count_from};
 
 // Packet nonce, session nonce, and the counter, high byte first.
 pub fn counter_block(pn: [u8; 3], sn: [u8; 5], i: usize) -> [u8; 16]
@@ -62,12 +62,12 @@ pub fn apply_ctr<C: BlockCipher>(
     session_nonce: [u8; 5],
     src: &[u8],
     out: &mut [u8],
-) -> Written
+) -> Result<usize, Refusal>
     ensures { Stores (no_room 0 (ctr_of key packet_nonce session_nonce src.now) out.old ∷ []) 0
         (ctr_of key packet_nonce session_nonce src.now) out.old result out.new }
 {
     if out.len() < src.len() {
-        return Written::Refused(25);
+        return Err(Refusal::NoRoom);
     }
     let cipher = C::new();
     let keys = expand_key(&cipher, key);
@@ -76,5 +76,5 @@ pub fn apply_ctr<C: BlockCipher>(
         let counter = counter_block(packet_nonce, session_nonce, i);
         xor_block(encrypt_block(&cipher, &keys, counter), src, 16 * i, out);
     }
-    Written::Wrote(src.len())
+    Ok(src.len())
 }

@@ -23,7 +23,7 @@ pub use inv_cipher::{decrypt_block, inv_mix_columns, inv_shift_rows, inv_sub_byt
 pub use packed::xtime;
 use packed::{inverses, pack, times_x, unpack};
 pub use steps::{add_round_key, mix_columns, of_state, shift_rows, to_state};
-use wire::Written;
+use wire::Refusal;
 
 // The affine step of each of eight bytes. Times x modulo x^8 + 1 turns a byte's digits one place to the left.
 fn affines(w: u64) -> u64
@@ -177,7 +177,7 @@ pub fn apply_ctr(
     session_nonce: [u8; 5],
     src: &[u8],
     out: &mut [u8],
-) -> Written
+) -> Result<usize, Refusal>
     ensures { Stores (no_room 0 (ctr_of key packet_nonce session_nonce src.now) out.old ∷ []) 0
         (ctr_of key packet_nonce session_nonce src.now) out.old result out.new }
 {

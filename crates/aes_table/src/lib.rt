@@ -13,7 +13,7 @@ ghost use Rattle.aes_table.specs.Words.{state_of};
 
 use aes::block_cipher::{self, BlockCipher};
 pub use table::Fast;
-use wire::Written;
+use wire::Refusal;
 use words::{add_round_key, of_words, to_words};
 
 impl BlockCipher for Fast {
@@ -75,7 +75,7 @@ pub fn apply_ctr(
     session_nonce: [u8; 5],
     src: &[u8],
     out: &mut [u8],
-) -> Written
+) -> Result<usize, Refusal>
     ensures { Stores (no_room 0 (ctr_of key packet_nonce session_nonce src.now) out.old ∷ []) 0
         (ctr_of key packet_nonce session_nonce src.now) out.old result out.new }
 {
