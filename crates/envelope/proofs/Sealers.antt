@@ -12,18 +12,19 @@ use borrow.Author.Tests.{lt-ltb, le-ltb, ltb-false}
 use Rattle.wire.proofs.Choice.{or_fails}
 use Rattle.wire.specs.Rules.{◌when◌}
 use Rattle.wire.specs.Writing.{Stores, no_room, placed}
-use Rattle.wire.specs.declared.Written.{Written}
-use Rattle.wire.specs.declared.Written.TheVariants.{Wrote, Refused}
+use Rattle.std.specs.Prelude.{Result, Ok, Option, Some, None, is_some}
+use Rattle.wire.specs.declared.refusals.Refusal.{Refusal}
+use Rattle.wire.specs.Refusals.{refusing}
 use Rattle.wire.proofs.Writing.{stores_refused, stores_past}
 use Rattle.aes.specs.Ctr.{blocks_for, ctr_of}
 use Rattle.aes.proofs.KeyStream.{length_ctr}
-use Rattle.session.specs.declared.Key.{Key}
+use Rattle.session.specs.Keys.{key_bytes}
 use Rattle.envelope.specs.Blocks.{padding_for, padded, enveloped, outside, sealer_rules, Seals}
 use Rattle.envelope.proofs.Bytes.{three}
 use Rattle.envelope.proofs.Envelopes.{length_padded, length_enveloped}
 
 -- a store that had room
-pub stored : {at : ℕ} {bytes room : List ℕ} {answer : Written} {after : List ℕ} → Stores (no_room at bytes room ∷ []) at bytes room answer after
+pub stored : {at : ℕ} {bytes room : List ℕ} {answer : Result ℕ Refusal} {after : List ℕ} → Stores (no_room at bytes room ∷ []) at bytes room answer after
     → at + length bytes ≤ length room → after ≡ placed at bytes room
 stored w h = w.leaves ∙ rw (le-ltb _ _ h)
 
@@ -79,7 +80,7 @@ image_made key pn sn id text room {o} {y} lp h eo lo ey =
     rw (lo, t, d, d2, w, append-nil)
     (sym (ap (λ (l : List ℕ). l ++ drop (0 + length l) room) (ap (λ (l : List ℕ). l ++ (id ∷ c)) p) ∙ rw z))
 
-pub image_stored : (key pn sn : List ℕ) (id : ℕ) (h b room : List ℕ) (n : ℕ) (text : List ℕ) {o y : List ℕ} {r r' : Written}
+pub image_stored : (key pn sn : List ℕ) (id : ℕ) (h b room : List ℕ) (n : ℕ) (text : List ℕ) {o y : List ℕ} {r r' : Result ℕ Refusal}
     → length pn ≡ 3 → length h + length b ≤ 496 → n ≡ 16 * blocks_for (length h + length b) → 4 + n ≤ length room
     → text ≡ (h ++ b) ++ replicate (496 - (length h + length b)) 0
     → Stores (no_room 0 (get_or pn 0 0 ∷ get_or pn 1 0 ∷ get_or pn 2 0 ∷ id ∷ []) room ∷ []) 0 (get_or pn 0 0 ∷ get_or pn 1 0 ∷ get_or pn 2 0 ∷ id ∷ []) room r o
@@ -99,33 +100,37 @@ pub length_image : (key pn sn : List ℕ) (id : ℕ) (h b : List ℕ) → length
 length_image key pn sn id h b lp = omega (arith, length_enveloped key pn sn id (padded (h ++ b)) lp, length_padded (h ++ b), length-append h b)
 
 -- ---- how a sealer ends
-module _ (image room : List ℕ) (held : Bool) where
-  pub no_room_lem : length room < length image → Stores (no_room 0 image room ∷ (10 when not held) ∷ []) 0 image room (Refused 25) room
-  no_room_lem h = stores_refused 0 image room (no_room 0 image room ∷ (10 when not held) ∷ []) 24 (rw (lt-ltb (length room) (0 + length image) (omega arith)))
+pub none_held : (key : Option (List ℕ)) → ((b : List ℕ) → key ≡ Some b → ⊥) → is_some key ≡ false
+none_held None h = refl
+none_held (Some b) h = absurd (h b refl)
 
-  pub no_key_lem : length image ≤ length room → held ≡ false → Stores (no_room 0 image room ∷ (10 when not held) ∷ []) 0 image room (Refused 10) room
+module _ (image room : List ℕ) (held : Bool) where
+  pub no_room_lem : length room < length image → Stores (no_room 0 image room ∷ (10 when not held) ∷ []) 0 image room (refusing 25) room
+  no_room_lem h = stores_refused 0 image room (no_room 0 image room ∷ (10 when not held) ∷ []) 24 refl (rw (lt-ltb (length room) (0 + length image) (omega arith)))
+
+  pub no_key_lem : length image ≤ length room → held ≡ false → Stores (no_room 0 image room ∷ (10 when not held) ∷ []) 0 image room (refusing 10) room
   no_key_lem h e =
-      stores_refused 0 image room (no_room 0 image room ∷ (10 when not held) ∷ []) 9 (rw (le-ltb (length room) (0 + length image) (omega arith), e))
+      stores_refused 0 image room (no_room 0 image room ∷ (10 when not held) ∷ []) 9 refl (rw (le-ltb (length room) (0 + length image) (omega arith), e))
 
   pub made : {n : ℕ} {after : List ℕ} → length image ≤ length room → held ≡ true → n ≡ length image → after ≡ placed 0 image room
-      → Stores (no_room 0 image room ∷ (10 when not held) ∷ []) 0 image room (Wrote n) after
+      → Stores (no_room 0 image room ∷ (10 when not held) ∷ []) 0 image room (Ok n) after
   made h e l a =
       let k = le-ltb (length room) (0 + length image) (omega arith) in
       record { number = rw (k, e, l); answers = rw (k, e, l); leaves = rw (k, e, a) }
 
 -- what is left where the size is within the limits
-abbrev pub Ends : Key → List ℕ → List ℕ → Written → List ℕ → Type 0
-Ends key image room answer after = Stores (no_room 0 image room ∷ (10 when not key.held) ∷ []) 0 image room answer after
+abbrev pub Ends : Option (List ℕ) → List ℕ → List ℕ → Result ℕ Refusal → List ℕ → Type 0
+Ends key image room answer after = Stores (no_room 0 image room ∷ (10 when not (is_some key)) ∷ []) 0 image room answer after
 
 -- key, ID and text by the names of the definitions
-pub sealed_as : (pn sn room : List ℕ) (bad : Bool) {key key' : Key} {id id' : ℕ} {text text' : List ℕ} {answer : Written} {after : List ℕ}
-    → bad ≡ false → key ≡ key' → id ≡ id' → text ≡ text' → Ends key (enveloped key.bytes pn sn id text) room answer after
-    → Seals key' bad (enveloped key'.bytes pn sn id' text') room answer after
+pub sealed_as : (pn sn room : List ℕ) (bad : Bool) {key key' : Option (List ℕ)} {id id' : ℕ} {text text' : List ℕ} {answer : Result ℕ Refusal} {after : List ℕ}
+    → bad ≡ false → key ≡ key' → id ≡ id' → text ≡ text' → Ends key (enveloped (key_bytes key) pn sn id text) room answer after
+    → Seals key' bad (enveloped (key_bytes key') pn sn id' text') room answer after
 sealed_as pn sn room bad {key} {key'} {id} {id'} {text} {text'} {answer} {after} e ek ei et w =
-    stores_past 0 (enveloped key'.bytes pn sn id' text') room 17 bad e
-    (subst (λ (k : Key). Ends k (enveloped k.bytes pn sn id' text') room answer after) ek
-    (subst (λ (i : ℕ). Ends key (enveloped key.bytes pn sn i text') room answer after) ei
-    (subst (λ (t : List ℕ). Ends key (enveloped key.bytes pn sn id t) room answer after) et w)))
+    stores_past 0 (enveloped (key_bytes key') pn sn id' text') room 17 bad e
+    (subst (λ (k : Option (List ℕ)). Ends k (enveloped (key_bytes k) pn sn id' text') room answer after) ek
+    (subst (λ (i : ℕ). Ends key (enveloped (key_bytes key) pn sn i text') room answer after) ei
+    (subst (λ (t : List ℕ). Ends key (enveloped (key_bytes key) pn sn id t) room answer after) et w)))
 
 -- a size within the limits, and one outside
 pub within : (least most n : ℕ) {b : Bool} → b ≡ outside least most n → b ≡ false → (least ≤ n) × (n ≤ most)
@@ -133,5 +138,5 @@ within least most n e k =
     let o = or_fails (ltb n least) (ltb most n) (sym e ∙ k) in
     (ltb-false n least o.0, ltb-false most n o.1)
 
-pub wrong_size_lem : (key : Key) (bad : Bool) (image room : List ℕ) → bad ≡ true → Seals key bad image room (Refused 17) room
-wrong_size_lem key bad image room e = stores_refused 0 image room (sealer_rules key bad image room) 16 (rw e)
+pub wrong_size_lem : (key : Option (List ℕ)) (bad : Bool) (image room : List ℕ) → bad ≡ true → Seals key bad image room (refusing 17) room
+wrong_size_lem key bad image room e = stores_refused 0 image room (sealer_rules key bad image room) 16 refl (rw e)

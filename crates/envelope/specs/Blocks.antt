@@ -1,12 +1,11 @@
 -- Document 01, 'Cipher and session': what an encrypted wrapper payload and a characteristic packet have in common.
-use Rattle.std.specs.Prelude.{ℕ, ◌+◌, ◌-◌, ◌*◌, ◌/◌, min, Bool, not, ◌||◌, List, [], ◌∷◌, ◌++◌, length, get_or, take, drop, replicate, eqb, ltb}
+use Rattle.std.specs.Prelude.{ℕ, ◌+◌, ◌-◌, ◌*◌, ◌/◌, min, Bool, not, ◌||◌, List, [], ◌∷◌, ◌++◌, length, get_or, take, drop, replicate, eqb, ltb, Option, is_some, Result}
 use Rattle.wire.specs.Numbers.{num}
 use Rattle.wire.specs.Rules.{Rule, ◌when◌, among}
 use Rattle.wire.specs.Writing.{Stores, no_room}
-use Rattle.wire.specs.declared.Written.{Written}
+use Rattle.wire.specs.declared.refusals.Refusal.{Refusal}
 use Rattle.aes.specs.Ctr.{blocks_for, ctr_of}
 use Rattle.session.specs.Memory.{remembered}
-use Rattle.session.specs.declared.Key.{Key}
 use Rattle.session.specs.declared.NonceMemory.{NonceMemory}
 
 -- ---- sealing
@@ -26,10 +25,10 @@ abbrev pub outside : ℕ → ℕ → ℕ → Bool
 outside least most n = ltb n least || ltb most n
 
 -- 'Room': 17 for a size outside the limits, then 25, then 10
-abbrev pub sealer_rules : Key → Bool → List ℕ → List ℕ → List Rule
-sealer_rules key bad image room = (17 when bad) ∷ no_room 0 image room ∷ (10 when not key.held) ∷ []
+abbrev pub sealer_rules : Option (List ℕ) → Bool → List ℕ → List ℕ → List Rule
+sealer_rules key bad image room = (17 when bad) ∷ no_room 0 image room ∷ (10 when not (is_some key)) ∷ []
 
-abbrev pub Seals : Key → Bool → List ℕ → List ℕ → Written → List ℕ → Type 0
+abbrev pub Seals : Option (List ℕ) → Bool → List ℕ → List ℕ → Result ℕ Refusal → List ℕ → Type 0
 Seals key bad image room answer after = Stores (sealer_rules key bad image room) 0 image room answer after
 
 -- ---- opening

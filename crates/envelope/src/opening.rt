@@ -1,6 +1,6 @@
-// Blocks deciphered into a work buffer and judged. Each judge gives the number of the first rule that is broken, 0 where none is.
+// Blocks deciphered into a work buffer and judged. Each judge gives the refusal of the first rule that is broken.
 ghost use Rattle.std.specs.Prelude.{◌≡◌, ◌∷◌, [], ◌≤◌, take, drop};
-ghost use Rattle.wire.specs.Rules.{first_broken};
+ghost use Rattle.wire.specs.Refusals.{checked_by};
 ghost use Rattle.wire.specs.Same.{same_bytes};
 ghost use Rattle.wire.specs.Writing.{Stores, no_room};
 ghost use Rattle.envelope.specs.Blocks.{blocks_in, deciphered, length_rule, room_rule, nonce_bytes, nonce_number, nonce_rule, not_least, cleared};
@@ -10,20 +10,17 @@ ghost use Rattle.envelope.specs.Characteristic.{packet_size, packet_misfit, all_
 use crate::outside;
 use aes::block_cipher::BlockCipher;
 use session::NonceMemory;
-use wire::{Part, Written};
+use wire::{Part, Refusal};
 
 // 7, of an encrypted wrapper payload or a characteristic packet.
-pub fn judge_length(payload: &[u8]) -> u8
-    ensures { result ≡ first_broken (length_rule payload.now ∷ []) }
+pub fn judge_length(payload: &[u8]) -> Result<(), Refusal>
+    ensures { result ≡ checked_by (length_rule payload.now ∷ []) }
 {
     let n = blocks_in(payload);
-    if outside(1, 31, n) {
-        return 7;
+    if outside(1, 31, n) || payload.len() != 4 + 16 * n {
+        return Err(Refusal::BadLength);
     }
-    if payload.len() != 4 + 16 * n {
-        return 7;
-    }
-    0
+    Ok(())
 }
 
 // n: how many blocks a payload holds.
@@ -34,13 +31,13 @@ pub fn blocks_in(payload: &[u8]) -> usize
 }
 
 // 25, for a work buffer of so many bytes.
-pub fn judge_room(payload: &[u8], room: usize) -> u8
-    ensures { result ≡ first_broken (room_rule payload.now room ∷ []) }
+pub fn judge_room(payload: &[u8], room: usize) -> Result<(), Refusal>
+    ensures { result ≡ checked_by (room_rule payload.now room ∷ []) }
 {
     if room < 16 * blocks_in(payload) {
-        return 25;
+        return Err(Refusal::NoRoom);
     }
-    0
+    Ok(())
 }
 
 // The number of the packet nonce.
@@ -51,13 +48,13 @@ pub fn nonce_number(payload: &[u8]) -> u32
 }
 
 // 28, by the packet nonces that are remembered.
-pub fn judge_nonce(memory: NonceMemory, payload: &[u8]) -> u8
-    ensures { result ≡ first_broken (nonce_rule memory payload.now ∷ []) }
+pub fn judge_nonce(memory: NonceMemory, payload: &[u8]) -> Result<(), Refusal>
+    ensures { result ≡ checked_by (nonce_rule memory payload.now ∷ []) }
 {
     if memory.holds(nonce_number(payload)) {
-        return 28;
+        return Err(Refusal::NonceUsed);
     }
-    0
+    Ok(())
 }
 
 // The payload's blocks deciphered, at the front of the work buffer; 25 where they do not fit.
@@ -66,12 +63,12 @@ pub fn decipher<C: BlockCipher>(
     nonce: [u8; 5],
     payload: &[u8],
     work: &mut [u8],
-) -> Written
+) -> Result<usize, Refusal>
     ensures { Stores (no_room 0 (deciphered key nonce payload.now) work.old ∷ []) 0
         (deciphered key nonce payload.now) work.old result work.new }
 {
     if payload.len() < 4 {
-        return Written::Wrote(0);
+        return Ok(0);
     }
     let packet_nonce = [payload[0], payload[1], payload[2]];
     aes::ctr::apply_ctr::<C>(key, packet_nonce, nonce, &payload[4..], work)
@@ -99,16 +96,16 @@ pub fn blocks(payload: &[u8]) -> &[u8]
 }
 
 // 11 and 12, of the blocks of an encrypted UART message. Any padding is accepted.
-pub fn judge_text(text: &[u8]) -> u8
-    ensures { result ≡ first_broken (late_rules text.now) }
+pub fn judge_text(text: &[u8]) -> Result<(), Refusal>
+    ensures { result ≡ checked_by (late_rules text.now) }
 {
     if wire::read_u32(text, 0) != 0xCAFEBABE {
-        return 11;
+        return Err(Refusal::ValidationDiffers);
     }
     if message_misfit(text) {
-        return 12;
+        return Err(Refusal::BadMessageSize);
     }
-    0
+    Ok(())
 }
 
 // Whether 12 applies: the message size is below 2, or the blocks are not the least number that holds the message.
@@ -130,19 +127,19 @@ fn message_size(text: &[u8]) -> usize
 }
 
 // 11, 18 and 13, of the blocks of a characteristic packet.
-pub fn judge_characteristic(validation: [u8; 4], text: &[u8]) -> u8
-    ensures { result ≡ first_broken (characteristic_rules validation text.now) }
+pub fn judge_characteristic(validation: [u8; 4], text: &[u8]) -> Result<(), Refusal>
+    ensures { result ≡ checked_by (characteristic_rules validation text.now) }
 {
-    if starts_with(text, validation) {
-        if packet_misfit(text) {
-            return 18;
-        }
-        if all_zero(text, 4 + packet_size(text)) {
-            return 0;
-        }
-        return 13;
+    if !starts_with(text, validation) {
+        return Err(Refusal::ValidationDiffers);
     }
-    11
+    if packet_misfit(text) {
+        return Err(Refusal::BadPacketLength);
+    }
+    if !all_zero(text, 4 + packet_size(text)) {
+        return Err(Refusal::PaddingNotZero);
+    }
+    Ok(())
 }
 
 // Whether 18 applies: the blocks are not the least number that holds the packet.

@@ -1,11 +1,11 @@
 // Sealers: the image of an encrypted message or packet, at the front of the lent room. They judge lengths, room and key alone.
-ghost use Rattle.std.specs.Prelude.{◌≡◌, not, ◌++◌, ◌∷◌, [], ◌+◌, ◌-◌, ◌*◌, ◌≤◌, length, replicate};
+ghost use Rattle.std.specs.Prelude.{◌≡◌, is_some, not, ◌++◌, ◌∷◌, [], ◌+◌, ◌-◌, ◌*◌, ◌≤◌, length, replicate};
 ghost use Rattle.wire.specs.Numbers.{le};
 ghost use Rattle.wire.specs.Rules.{◌when◌};
 ghost use Rattle.wire.specs.Writing.{Stores, no_room, placed};
 ghost use Rattle.aes.specs.Ctr.{blocks_for};
 ghost use Rattle.access.specs.Level.{level_number};
-ghost use Rattle.session.specs.Keys.{key_for};
+ghost use Rattle.session.specs.Keys.{key_bytes, key_for};
 ghost use Rattle.envelope.specs.Blocks.{padded, enveloped, outside, Seals};
 ghost use Rattle.envelope.specs.Sealed.{sealed_image};
 ghost use Rattle.envelope.specs.Characteristic.{characteristic_image};
@@ -13,8 +13,8 @@ ghost use Rattle.envelope.specs.Characteristic.{characteristic_image};
 use crate::outside;
 use access::{Level, Mode};
 use aes::block_cipher::BlockCipher;
-use session::{Key, Keys};
-use wire::Written;
+use session::Keys;
+use wire::Refusal;
 
 // The encrypted wrapper payload of a message: 17, 25, 10.
 pub fn seal<C: BlockCipher>(
@@ -24,13 +24,13 @@ pub fn seal<C: BlockCipher>(
     session_nonce: [u8; 5],
     message: &[u8],
     out: &mut [u8],
-) -> Written
+) -> Result<usize, Refusal>
     ensures { Seals (key_for keys mode Level.Admin) (outside 2 490 (length message.now))
-        (sealed_image (key_for keys mode Level.Admin).bytes packet_nonce session_nonce message.now) out.old result out.new }
+        (sealed_image (key_bytes (key_for keys mode Level.Admin)) packet_nonce session_nonce message.now) out.old result out.new }
 {
     let size = message.len();
     if outside(2, 490, size) {
-        return Written::Refused(17);
+        return Err(Refusal::BadMessageData);
     }
     let key = keys.serving(mode, Level::Admin);
     let head = header(size as u16);
@@ -47,13 +47,13 @@ pub fn seal_characteristic<C: BlockCipher>(
     validation: [u8; 4],
     packet: &[u8],
     out: &mut [u8],
-) -> Written
+) -> Result<usize, Refusal>
     ensures { Seals (key_for keys mode level) (outside 5 492 (length packet.now))
-        (characteristic_image (key_for keys mode level).bytes packet_nonce session_nonce (level_number level) validation packet.now) out.old result out.new }
+        (characteristic_image (key_bytes (key_for keys mode level)) packet_nonce session_nonce (level_number level) validation packet.now) out.old result out.new }
 {
     let size = packet.len();
     if outside(5, 492, size) {
-        return Written::Refused(17);
+        return Err(Refusal::BadMessageData);
     }
     let key = keys.serving(mode, level);
     let number = access::level_number(level);
@@ -78,28 +78,27 @@ fn header(size: u16) -> [u8; 6]
 
 // Packet nonce, key ID or level, and the blocks of head, body and padding: 25, 10.
 fn envelop<C: BlockCipher>(
-    key: Key,
+    key: Option<[u8; 16]>,
     packet_nonce: [u8; 3],
     session_nonce: [u8; 5],
     id: u8,
     head: &[u8],
     body: &[u8],
     out: &mut [u8],
-) -> Written
+) -> Result<usize, Refusal>
     requires { length head.now + length body.now ≤ 496 }
-    ensures { Stores (no_room 0 (enveloped key.bytes packet_nonce session_nonce id (padded (head.now ++ body.now))) out.old ∷ (10 when not key.held) ∷ []) 0
-        (enveloped key.bytes packet_nonce session_nonce id (padded (head.now ++ body.now))) out.old result out.new }
+    ensures { Stores (no_room 0 (enveloped (key_bytes key) packet_nonce session_nonce id (padded (head.now ++ body.now))) out.old ∷ (10 when not (is_some key)) ∷ []) 0
+        (enveloped (key_bytes key) packet_nonce session_nonce id (padded (head.now ++ body.now))) out.old result out.new }
 {
     let n = 16 * aes::blocks_for(head.len() + body.len());
     if out.len() < 4 + n {
-        return Written::Refused(25);
+        return Err(Refusal::NoRoom);
     }
-    if key.held {
-        let bytes = key.bytes;
-        write_blocks::<C>(bytes, packet_nonce, session_nonce, id, n, head, body, out);
-        return Written::Wrote(4 + n);
-    }
-    Written::Refused(10)
+    let Some(bytes) = key else {
+        return Err(Refusal::NoKey);
+    };
+    write_blocks::<C>(bytes, packet_nonce, session_nonce, id, n, head, body, out);
+    Ok(4 + n)
 }
 
 fn write_blocks<C: BlockCipher>(
@@ -117,8 +116,8 @@ fn write_blocks<C: BlockCipher>(
 {
     let text = with_zeros(head, body);
     let front = [packet_nonce[0], packet_nonce[1], packet_nonce[2], id];
-    wire::store(&front, 0, out);
-    aes::ctr::apply_ctr::<C>(key, packet_nonce, session_nonce, &text[..n], &mut out[4..]);
+    let _ = wire::store(&front, 0, out);
+    let _ = aes::ctr::apply_ctr::<C>(key, packet_nonce, session_nonce, &text[..n], &mut out[4..]);
 }
 
 // Head and body, and zero behind them.
@@ -128,7 +127,7 @@ fn with_zeros(head: &[u8], body: &[u8]) -> [u8; 496]
 {
     let mut text = [0u8; 496];
     let at = head.len();
-    wire::store(head, 0, &mut text);
-    wire::store(body, at, &mut text);
+    let _ = wire::store(head, 0, &mut text);
+    let _ = wire::store(body, at, &mut text);
     text
 }

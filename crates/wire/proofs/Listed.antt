@@ -1,14 +1,15 @@
 -- Refusals and their numbers. Assumes nothing.
-use mathlib.Core.Path.{◌≡◌, refl, ap, subst, ◌∙◌}
+use mathlib.Core.Path.{◌≡◌, refl, sym, ap, subst, ◌∙◌}
 use mathlib.Core.Bool.{Bool, true, false}
-use mathlib.Core.List.{List, [], ◌∷◌}
+use mathlib.Core.List.{List, [], ◌∷◌, ◌++◌}
 use Prim.Native.Nat.{ℕ, zero, suc}
 use native.Mathlib.Omega.{arith}
 use lib.Dec.{T, eqb}
 use borrow.Author.Tests.{eqb-true}
 use Rattle.std.specs.Prelude.{Result, Ok, Err}
-use Rattle.wire.specs.Refusals.{number_of, refusal_of, refusing}
-use Rattle.wire.specs.Rules.{Rule, ◌when◌, given, or_else, first_broken, verdict, judge}
+use Rattle.wire.specs.Refusals.{number_of, refusal_of, refusing, checked_by}
+use Rattle.wire.proofs.Rules.{judge_append, judge_pass}
+use Rattle.wire.specs.Rules.{Rule, ◌when◌, first_broken, verdict, judge}
 use Rattle.wire.specs.declared.refusals.Refusal.{Refusal}
 
 -- each number of a list of rules is a refusal's: `(tt, (tt, ..))` where the numbers are literals
@@ -37,3 +38,26 @@ judge_listed f refuse rules good good' l r g = go (first_broken rules) refl
     go : (n : ℕ) → first_broken rules ≡ n → f (verdict refusing n good) ≡ verdict refuse n good'
     go zero e = g e
     go (suc n) e = r (refusal_of (suc n)) ∙ ap refuse (first_listed rules l n e)
+
+-- ---- a judge's answer
+-- it refused: so does what asks more behind it
+pub checked_err : {A : Type 0} (xs ys : List Rule) (good : Result A Refusal) {r : Refusal} → Err r ≡ checked_by xs → Err r ≡ judge refusing (xs ++ ys) good
+checked_err xs ys good {r = r} e = go (first_broken xs) refl e ∙ sym (judge_append refusing xs ys good)
+  where
+    go : (n : ℕ) → first_broken xs ≡ n → Err r ≡ verdict refusing n (Ok (tt {0})) → Err r ≡ verdict refusing n (judge refusing ys good)
+    go zero q h = cc
+    go (suc n) q h = cc
+
+-- it did not: no rule is broken
+pub checked_ok : (xs : List Rule) → Ok tt ≡ checked_by xs → first_broken xs ≡ 0
+checked_ok xs e = go (first_broken xs) e
+  where
+    go : (n : ℕ) → Ok (tt {0}) ≡ verdict refusing n (Ok (tt {0})) → n ≡ 0
+    go zero h = refl
+    go (suc n) h = cc
+
+-- and what asks more behind it decides
+pub checked_then : {A : Type 0} (xs ys : List Rule) (good : Result A Refusal) {r : Result A Refusal} → Ok tt ≡ checked_by xs → r ≡ judge refusing ys good
+    → r ≡ judge refusing (xs ++ ys) good
+checked_then xs ys good e h =
+    h ∙ sym (judge_append refusing xs ys good ∙ judge_pass refusing xs (judge refusing ys good) (checked_ok xs e))

@@ -1,5 +1,6 @@
 -- The refusals by their numbers in document 01's table, with those of document 02.
-use Rattle.std.specs.Prelude.{ℕ, pred, List, [], ◌∷◌, get_or, Result, Err}
+use Rattle.std.specs.Prelude.{ℕ, pred, List, [], ◌∷◌, get_or, Result, Ok, Err}
+use Rattle.wire.specs.Rules.{Rule, judge}
 use Rattle.wire.specs.declared.refusals.Refusal.{Refusal}
 use Rattle.wire.specs.declared.refusals.Refusal.TheVariants.{StartInFrame, BadEscape, BadFrameSize, CrcDiffers, UnknownMajor, UnknownWrapper, BadLength, NoSession, SessionRunOut, NoKey, ValidationDiffers, BadMessageSize, PaddingNotZero, UnknownDataType, PlainRefused, EncryptedRefused, BadMessageData, BadPacketLength, UnknownProtocol, UnknownCommand, NoMarkForMode, NoMarkForLevel, BadCommandLength, BadCommandField, NoRoom, PartOutOfTurn, MessageTooLong, NonceUsed}
 
@@ -48,3 +49,7 @@ refusal_of n = get_or table (pred n) NonceUsed
 -- an answer by a refusal's number
 abbrev pub refusing : {A : Type 0} → ℕ → Result A Refusal
 refusing n = Err (refusal_of n)
+
+-- what a judge answers: the refusal of the first broken rule, or that none is broken
+abbrev pub checked_by : List Rule → Result (Unit {0}) Refusal
+checked_by rules = judge refusing rules (Ok tt)
