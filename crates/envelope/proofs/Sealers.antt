@@ -12,7 +12,7 @@ use borrow.Author.Tests.{lt-ltb, le-ltb, ltb-false}
 use Rattle.wire.proofs.Choice.{or_fails}
 use Rattle.wire.specs.Rules.{◌when◌}
 use Rattle.wire.specs.Writing.{Stores, no_room, placed}
-use Rattle.std.specs.Prelude.{Result, Ok, Option, Some, None, is_some}
+use Rattle.std.specs.Prelude.{Result, Ok, Option, is_some}
 use Rattle.wire.specs.declared.refusals.Refusal.{Refusal}
 use Rattle.wire.specs.Refusals.{refusing}
 use Rattle.wire.proofs.Writing.{stores_refused, stores_past}
@@ -100,10 +100,6 @@ pub length_image : (key pn sn : List ℕ) (id : ℕ) (h b : List ℕ) → length
 length_image key pn sn id h b lp = omega (arith, length_enveloped key pn sn id (padded (h ++ b)) lp, length_padded (h ++ b), length-append h b)
 
 -- ---- how a sealer ends
-pub none_held : (key : Option (List ℕ)) → ((b : List ℕ) → key ≡ Some b → ⊥) → is_some key ≡ false
-none_held None h = refl
-none_held (Some b) h = absurd (h b refl)
-
 module _ (image room : List ℕ) (held : Bool) where
   pub no_room_lem : length room < length image → Stores (no_room 0 image room ∷ (10 when not held) ∷ []) 0 image room (refusing 25) room
   no_room_lem h = stores_refused 0 image room (no_room 0 image room ∷ (10 when not held) ∷ []) 24 refl (rw (lt-ltb (length room) (0 + length image) (omega arith)))

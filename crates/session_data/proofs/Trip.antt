@@ -10,8 +10,9 @@ use borrow.Author.Rules.{rules}
 use borrow.Author.Tests.{eqb-true, not-false}
 use Rattle.wire.specs.Numbers.{num, le}
 use Rattle.wire.specs.Rules.{◌when◌, first_broken}
-use Rattle.wire.specs.declared.Written.{Written}
-use Rattle.wire.specs.declared.Written.TheVariants.{Wrote}
+use Rattle.std.specs.Prelude.{Option, is_some, Result, Ok, Err}
+use Rattle.wire.specs.Refusals.{refusing}
+use Rattle.wire.specs.declared.refusals.Refusal.{Refusal}
 use Rattle.wire.proofs.Given.{never, good_exactly}
 use Rattle.wire.proofs.Held.{Held, held}
 use Rattle.wire.proofs.Numbers.{le_num}
@@ -23,12 +24,10 @@ use Rattle.aes.proofs.Bytes.{listed_bytes, append_bytes}
 use Rattle.aes.proofs.Filled.{places}
 use Rattle.aes.proofs.Inverse.{under_key, both_ways}
 use Rattle.session.specs.declared.Connection.{Connection}
-use Rattle.session.specs.declared.Key.{Key}
+use Rattle.session.specs.Keys.{key_bytes}
 use Rattle.session_data.specs.SessionData.{data_text, data_image, data_write_rules, WritesData, text_of, nonce_in, validation_in, data_text_rules, data_read_rules, read_by, data_read}
 use Rattle.session_data.specs.RoundTrip.{Sized, connected, ReadsBack}
-use Rattle.session_data.specs.declared.DataAnswer.{DataAnswer}
-use Rattle.session_data.specs.declared.DataAnswer.TheVariants.{Accepted, Refused}
-use Rattle.session_data.proofs.Judging.{text_is, length_image, by_accepted, key_there}
+use Rattle.session_data.proofs.Judging.{text_is, length_image, by_accepted, key_read}
 
 -- ---- the text of a session nonce and a validation key
 module _ (nonce validation : List ℕ) (z : Sized nonce validation) where
@@ -76,36 +75,36 @@ text_made t h r =
 
 -- ---- numbers
 -- the writer never gives 17
-pub write_never : (key : Key) (image room : List ℕ) → first_broken (data_write_rules key image room) ≡ 17 → ⊥
+pub write_never : (key : Option (List ℕ)) (image room : List ℕ) → first_broken (data_write_rules key image room) ≡ 17 → ⊥
 write_never key image room = never (data_write_rules key image room) 16 refl
 
-accepts : DataAnswer → Bool
-accepts Accepted = true
-accepts (Refused n) = false
+accepts : Result (Unit {0}) Refusal → Bool
+accepts (Ok u) = true
+accepts (Err r) = false
 
 -- ---- the block
-module _ (key : Key) (hk : SixteenBytes key.bytes) where
-  text_back : (nonce validation : List ℕ) → Sized nonce validation → text_of key (data_image key.bytes nonce validation) ≡ data_text nonce validation
+module _ (key : Option (List ℕ)) (hk : SixteenBytes (key_bytes key)) where
+  text_back : (nonce validation : List ℕ) → Sized nonce validation → text_of key (data_image (key_bytes key) nonce validation) ≡ data_text nonce validation
   unfolding data_image
-  text_back nonce validation z = (both_ways key.bytes hk).deciphered (data_text nonce validation) (text_sixteen nonce validation z)
+  text_back nonce validation z = (both_ways (key_bytes key) hk).deciphered (data_text nonce validation) (text_sixteen nonce validation z)
 
-  reads : (nonce validation : List ℕ) → Sized nonce validation → key.held ≡ true → (old : Connection)
-      → data_read key old (data_image key.bytes nonce validation) ≡ connected old nonce validation
+  reads : (nonce validation : List ℕ) → Sized nonce validation → is_some key ≡ true → (old : Connection)
+      → data_read key old (data_image (key_bytes key) nonce validation) ≡ connected old nonce validation
   reads nonce validation z e old =
-      sym (key_there key old (data_image key.bytes nonce validation) (length_image key.bytes nonce validation) e)
+      sym (key_read key old (data_image (key_bytes key) nonce validation) (length_image (key_bytes key) nonce validation) e)
       ∙ ap (λ (t : List ℕ). read_by (data_text_rules t) old t) (text_back nonce validation z)
       ∙ sym (by_accepted (data_text_rules (data_text nonce validation)) old (data_text nonce validation) (sym (text_rules nonce validation z)))
       ∙ ap₂ (connected old) (nonce_back nonce validation z) (validation_back nonce validation z)
 
-  wrote : (nonce validation : List ℕ) → Sized nonce validation → (room after : List ℕ) (answer : Written) (n : ℕ)
-      → WritesData key nonce validation room answer after → answer ≡ Wrote n → (old : Connection) → data_read key old (take n after) ≡ connected old nonce validation
+  wrote : (nonce validation : List ℕ) → Sized nonce validation → (room after : List ℕ) (answer : Result ℕ Refusal) (n : ℕ)
+      → WritesData key nonce validation room answer after → answer ≡ Ok n → (old : Connection) → data_read key old (take n after) ≡ connected old nonce validation
   wrote nonce validation z room after answer n w e old =
       let d = wrote_held n w e in
-      let h = held (data_write_rules key (data_image key.bytes nonce validation) room) (tt, (tt, tt)) d.0 in
-      ap (data_read key old) d.1 ∙ reads nonce validation z (not-false key.held h.1.0) old
+      let h = held (data_write_rules key (data_image (key_bytes key) nonce validation) room) (tt, (tt, tt)) d.0 in
+      ap (data_read key old) d.1 ∙ reads nonce validation z (not-false (is_some key) h.1.0) old
 
   apart : (nonce validation nonce' validation' : List ℕ) → Sized nonce validation → Sized nonce' validation'
-      → data_image key.bytes nonce validation ≡ data_image key.bytes nonce' validation' → (nonce ≡ nonce') × (validation ≡ validation')
+      → data_image (key_bytes key) nonce validation ≡ data_image (key_bytes key) nonce' validation' → (nonce ≡ nonce') × (validation ≡ validation')
   apart nonce validation nonce' validation' z z' e =
       let t : data_text nonce validation ≡ data_text nonce' validation' =
       sym (text_back nonce validation z) ∙ ap (text_of key) e ∙ text_back nonce' validation' z' in (
@@ -113,14 +112,14 @@ module _ (key : Key) (hk : SixteenBytes key.bytes) where
         sym (validation_back nonce validation z) ∙ ap validation_in t ∙ validation_back nonce' validation' z',
       )
 
-  writes : (old : Connection) (block : List ℕ) → SixteenBytes block → (data_read key old block).answer ≡ Accepted
-      → data_image key.bytes (nonce_in (text_of key block)) (validation_in (text_of key block)) ≡ block
+  writes : (old : Connection) (block : List ℕ) → SixteenBytes block → (data_read key old block).answer ≡ Ok tt
+      → data_image (key_bytes key) (nonce_in (text_of key block)) (validation_in (text_of key block)) ≡ block
   unfolding data_image data_read data_read_rules data_text_rules accepts
   writes old block h e =
       let t : List ℕ = text_of key block in
-      let n : first_broken (data_read_rules key block) ≡ 0 = (good_exactly accepts Refused (data_read_rules key block) Accepted (λ n. refl) refl).only (ap accepts e) in
-      let r : first_broken (data_text_rules t) ≡ 0 = (none_append ((7 when not (eqb (length block) 16)) ∷ (10 when not key.held) ∷ []) (data_text_rules t) n).1 in
-      ap (cipher key.bytes) (text_made t ((under_key key.bytes hk.bytes).back.keeps block h) (held (data_text_rules t) (tt, (tt, (tt, tt))) r)) ∙ (both_ways key.bytes hk).enciphered block h
+      let n : first_broken (data_read_rules key block) ≡ 0 = (good_exactly accepts refusing (data_read_rules key block) (Ok tt) (λ n. refl) refl).only (ap accepts e) in
+      let r : first_broken (data_text_rules t) ≡ 0 = (none_append ((7 when not (eqb (length block) 16)) ∷ (10 when not (is_some key)) ∷ []) (data_text_rules t) n).1 in
+      ap (cipher (key_bytes key)) (text_made t ((under_key (key_bytes key) hk.bytes).back.keeps block h) (held (data_text_rules t) (tt, (tt, (tt, tt))) r)) ∙ (both_ways (key_bytes key) hk).enciphered block h
 
   pub reads_back : ReadsBack key
   reads_back = record { reads = reads; wrote = wrote; apart = apart; writes = writes }

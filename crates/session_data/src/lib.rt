@@ -1,44 +1,32 @@
 // The session data: the block that a module hands out for a connection, read and written.
 #![tactic(auto)]
 
-ghost use Rattle.std.specs.Prelude.{◌≡◌, length};
-ghost use Rattle.wire.specs.Rules.{first_broken};
+ghost use Rattle.std.specs.Prelude.{◌≡◌, length, Ok};
+ghost use Rattle.wire.specs.Rules.{judge};
+ghost use Rattle.wire.specs.Refusals.{refusing, checked_by};
 ghost use Rattle.aes.specs.Cipher.{cipher};
 ghost use Rattle.aes.specs.InvCipher.{inv_cipher};
 ghost use Rattle.session.specs.Session.{with_data};
-ghost use Rattle.session_data.specs.SessionData.{data_key, data_text, WritesData, nonce_in, validation_in, data_text_rules, read_by, ReadsData};
+ghost use Rattle.session_data.specs.SessionData.{data_key, data_text, WritesData, text_of, nonce_in, validation_in, data_text_rules, data_read_rules, ReadsData};
 
 use access::Mode;
-use session::{Connection, Key, Keys};
-use wire::Written;
+use session::{Connection, Keys};
+use wire::Refusal;
 
-// What a block gives: a connection session, or a refusal's number.
-#[derive(Clone, Copy)]
-pub enum DataAnswer {
-    Accepted,
-    Refused(u8),
-}
-
-// The answer, and the connection session after it.
+// Whether the block is accepted, and the connection session after it.
 #[derive(Clone, Copy)]
 pub struct DataRead {
-    pub answer: DataAnswer,
+    pub answer: Result<(), Refusal>,
     pub connection: Connection,
 }
 
 // The key that session data is enciphered with.
-fn data_key(keys: Keys, mode: Mode) -> Key
+fn data_key(keys: Keys, mode: Mode) -> Option<[u8; 16]>
     ensures { result ≡ data_key keys mode }
 {
     match mode {
-        Mode::Normal => {
-            let key = keys.basic;
-            key
-        }
-        Mode::Setup => {
-            let key = keys.setup;
-            key
-        }
+        Mode::Normal => keys.basic,
+        Mode::Setup => keys.setup,
     }
 }
 
@@ -83,19 +71,16 @@ pub fn write_session_data(
     nonce: [u8; 5],
     validation: [u8; 4],
     out: &mut [u8],
-) -> Written
+) -> Result<usize, Refusal>
     ensures { WritesData (data_key keys mode) nonce validation out.old result out.new }
 {
     if out.len() < 16 {
-        return Written::Refused(25);
+        return Err(Refusal::NoRoom);
     }
-    let key = data_key(keys, mode);
-    if key.held {
-        let bytes = key.bytes;
-        let block = encipher(bytes, text(nonce, validation));
-        return wire::store(&block, 0, out);
-    }
-    Written::Refused(10)
+    let Some(key) = data_key(keys, mode) else {
+        return Err(Refusal::NoKey);
+    };
+    wire::store(&encipher(key, text(nonce, validation)), 0, out)
 }
 
 // ---- reading
@@ -106,24 +91,39 @@ fn decipher(key: [u8; 16], block: &[u8]) -> [u8; 16]
 {
     let keys = aes::expand_key(key);
     let mut bytes = [0u8; 16];
-    wire::store(block, 0, &mut bytes);
+    let _ = wire::store(block, 0, &mut bytes);
     aes::decrypt_block(&keys, bytes)
 }
 
-// 11, 13 and 19, of a block deciphered; 0 where none applies.
-fn judge_data(text: &[u8]) -> u8
-    ensures { result ≡ first_broken (data_text_rules text.now) }
+// 11, 13 and 19, of a block deciphered.
+fn judge_data(text: &[u8]) -> Result<(), Refusal>
+    ensures { result ≡ checked_by (data_text_rules text.now) }
 {
     if wire::read_u32(text, 0) != 0xCAFEBABE {
-        return 11;
+        return Err(Refusal::ValidationDiffers);
     }
     if wire::read_u16(text, 14) != 0 {
-        return 13;
+        return Err(Refusal::PaddingNotZero);
     }
     if wire::byte_at(text, 4) != 5 {
-        return 19;
+        return Err(Refusal::UnknownProtocol);
     }
-    0
+    Ok(())
+}
+
+// A block of any length, deciphered: 7, 10, 11, 13, 19.
+fn text_of(keys: Keys, mode: Mode, block: &[u8]) -> Result<[u8; 16], Refusal>
+    ensures { result ≡ judge refusing (data_read_rules (data_key keys mode) block.now) (Ok (text_of (data_key keys mode) block.now)) }
+{
+    if block.len() != 16 {
+        return Err(Refusal::BadLength);
+    }
+    let Some(key) = data_key(keys, mode) else {
+        return Err(Refusal::NoKey);
+    };
+    let text = decipher(key, block);
+    judge_data(&text)?;
+    Ok(text)
 }
 
 // The connection session that a block makes, deciphered.
@@ -135,41 +135,18 @@ fn connect(old: Connection, text: [u8; 16]) -> Connection
     old.with_data(nonce, validation)
 }
 
-// A refusal leaves the old connection session.
-fn refused(number: u8, old: Connection) -> DataRead
-    ensures { result ≡ record { answer = DataAnswer.Refused number; connection = old } }
-{
-    DataRead {
-        answer: DataAnswer::Refused(number),
-        connection: old,
-    }
-}
-
-// A block deciphered: 11, 13, 19.
-fn read_text(old: Connection, text: [u8; 16]) -> DataRead
-    ensures { result ≡ read_by (data_text_rules text) old text }
-{
-    let number = judge_data(&text);
-    if number != 0 {
-        return refused(number, old);
-    }
-    DataRead {
-        answer: DataAnswer::Accepted,
-        connection: connect(old, text),
-    }
-}
-
-// A block of any length: 7, 10, 11, 13, 19.
+// A block of any length: 7, 10, 11, 13, 19. A refusal leaves the old connection session.
 pub fn read_session_data(keys: Keys, mode: Mode, old: Connection, block: &[u8]) -> DataRead
     ensures { ReadsData (data_key keys mode) old block.now result }
 {
-    if block.len() != 16 {
-        return refused(7, old);
+    match text_of(keys, mode, block) {
+        Ok(text) => DataRead {
+            answer: Ok(()),
+            connection: connect(old, text),
+        },
+        Err(refusal) => DataRead {
+            answer: Err(refusal),
+            connection: old,
+        },
     }
-    let key = data_key(keys, mode);
-    if key.held {
-        let bytes = key.bytes;
-        return read_text(old, decipher(bytes, block));
-    }
-    refused(10, old)
 }

@@ -1,4 +1,5 @@
 -- Laws of choices and of tests joined. Assumes nothing.
+use Rattle.std.specs.Prelude.{Option, Some, None, is_some}
 use mathlib.Core.Path.{◌≡◌, refl, sym}
 use mathlib.Core.Bool.{Bool, true, false, ◌&&◌, ◌||◌}
 use Prim.Native.Nat.{ℕ}
@@ -34,3 +35,8 @@ and_false false = refl
 pub or_fails : (a b : Bool) → (a || b) ≡ false → (a ≡ false) × (b ≡ false)
 or_fails true b e = true_false e
 or_fails false b e = (refl, e)
+
+-- an option that is none of its values is none
+pub not_some : {A : Type 0} (o : Option A) → ((x : A) → o ≡ Some x → ⊥) → is_some o ≡ false
+not_some None h = refl
+not_some (Some x) h = absurd (h x refl)

@@ -61,3 +61,14 @@ pub checked_then : {A : Type 0} (xs ys : List Rule) (good : Result A Refusal) {r
     → r ≡ judge refusing (xs ++ ys) good
 checked_then xs ys good e h =
     h ∙ sym (judge_append refusing xs ys good ∙ judge_pass refusing xs (judge refusing ys good) (checked_ok xs e))
+
+-- the same with another good answer
+pub checked_refused : {A : Type 0} (xs : List Rule) (good : Result A Refusal) {r : Refusal} → Err r ≡ checked_by xs → Err r ≡ judge refusing xs good
+checked_refused xs good {r = r} e = go (first_broken xs) e
+  where
+    go : (n : ℕ) → Err r ≡ verdict refusing n (Ok (tt {0})) → Err r ≡ verdict refusing n good
+    go zero h = cc
+    go (suc n) h = cc
+
+pub checked_passed : {A : Type 0} (xs : List Rule) (good : Result A Refusal) → Ok tt ≡ checked_by xs → good ≡ judge refusing xs good
+checked_passed xs good e = sym (judge_pass refusing xs good (checked_ok xs e))
