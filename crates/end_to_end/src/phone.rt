@@ -116,7 +116,16 @@ fn seal(
 ) -> Written {
     let session = connection.nonce;
     let validation = connection.validation;
-    envelope::seal_characteristic::<Small>(keys(), mode, level, nonce, session, validation, bytes, room)
+    envelope::seal_characteristic::<Small>(
+        keys(),
+        mode,
+        level,
+        nonce,
+        session,
+        validation,
+        bytes,
+        room,
+    )
 }
 
 fn open(out: &mut [u8], at: usize, packet: &[u8], connection: Connection, mode: Mode) -> Answered {
