@@ -14,21 +14,22 @@ use Rattle.access.specs.declared.Access.{Access}
 use Rattle.control.specs.Control.{command_rules, command_at, read_control, read_command}
 use Rattle.control.proofs.Reading.{control_read}
 use Rattle.control.specs.declared.Command.{Command}
-use Rattle.control.specs.declared.ControlRead.TheVariants.{Accepted as ControlAccepted, Refused as ControlRefused}
 use Rattle.session.specs.Session.{connection_remembering}
 use Rattle.envelope.specs.Blocks.{blocks_in, nonce_number, cleared}
 use Rattle.envelope.specs.Characteristic.{characteristic_rules, packet_in}
 use Rattle.envelope.proofs.Envelopes.{length_deciphered}
 use Rattle.envelope.proofs.Unsealed.{packet_sized}
 use Rattle.bridge.specs.Characteristic.{level_key, connection_rules, packet_entry_rules, packet_text, packet_text_rules, packet_open_rules, accepted_command, characteristic_answer_of, packet_pass_rules, connection_after, characteristic_opened, characteristic_work_after}
-use Rattle.bridge.specs.Opening.{refused_command, command_answer_by, command_text_answer, text_connection, opened_command_as, command_text_opened, command_work_by}
+use Rattle.std.specs.Prelude.{Ok, Err}
+use Rattle.wire.specs.Refusals.{refusing}
+use Rattle.session.specs.Keys.{key_bytes}
+use Rattle.bridge.specs.Content.{CommandAnswer}
+use Rattle.bridge.specs.Opening.{refused_command, command_answer_by, command_text_answer, text_connection, opened_command_as, command_text_opened, work_by}
 use Rattle.bridge.proofs.Judging.{judge_stop, blocks_whole, stopped_before, accepted_behind, refused_behind}
 use Rattle.bridge.specs.declared.Link.{Link}
 use Rattle.bridge.specs.declared.OpenedCommand.{OpenedCommand}
-use Rattle.bridge.specs.declared.CommandAnswer.{CommandAnswer}
-use Rattle.bridge.specs.declared.CommandAnswer.TheVariants.{Accepted, Refused}
 use Rattle.bridge.specs.declared.Place.{Place}
-use Rattle.bridge.specs.declared.Refusal.{Refusal}
+use Rattle.bridge.specs.declared.Refused.{Refused}
 
 -- where none of 11, 18 and 13 is given, a packet is as long as its size field says: 18 of its reader adds nothing
 pub packet_whole : (v text : List ℕ) → first_broken (characteristic_rules v text) ≡ 0 → length (packet_in text) ≡ 5 + num 2 3 (packet_in text)
@@ -45,13 +46,13 @@ answer_read v text end m a e h =
     let q = packet_in text in
     let l : read_control q m a ≡ read_command q m a = control_read q m a ∙ simp (eq-eqb _ _ (packet_whole v text h)) in
     rw (e, l)
-    (verdict_map (command_answer_by (4 + length q)) ControlRefused (first_broken (command_rules q m a)) (ControlAccepted (command_at q)))
+    (verdict_map (command_answer_by (4 + length q)) refusing (first_broken (command_rules q m a)) (Ok (command_at q)))
 
-none_broken : (n : ℕ) (l : List ℕ) {c : Command} {at : Place} → Accepted c at ≡ verdict refused_command n (accepted_command l) → n ≡ 0
+none_broken : (n : ℕ) (l : List ℕ) {a : Command × Place} → Ok a ≡ verdict refused_command n (accepted_command l) → n ≡ 0
 none_broken zero l e = refl
 none_broken (suc n) l e = absurd (let z : ◌≡◌ {A = ℕ} 0 1 = cc in omega arith)
 
-some_broken : (n : ℕ) (l : List ℕ) {r : Refusal} → Refused r ≡ verdict refused_command n (accepted_command l) → n ≡ 0 → ⊥
+some_broken : (n : ℕ) (l : List ℕ) {r : Refused} → Err r ≡ verdict refused_command n (accepted_command l) → n ≡ 0 → ⊥
 some_broken zero l e z = let y : ◌≡◌ {A = ℕ} 0 1 = cc in omega arith
 some_broken (suc n) l e z = omega arith
 
@@ -83,11 +84,11 @@ module _ (k : Link) (p work : List ℕ) where
 
     pub long : length (packet_text k p) ≡ 16 * blocks_in p
     unfolding packet_text
-    long = length_deciphered (level_key k p).bytes k.connection.nonce p ∙ (let e : length p - 4 ≡ 16 * blocks_in p = omega (arith, whole.0) in e)
+    long = length_deciphered (key_bytes (level_key k p)) k.connection.nonce p ∙ (let e : length p - 4 ≡ 16 * blocks_in p = omega (arith, whole.0) in e)
 
-    accepted_after : {c : Command} {at : Place} {after : List ℕ} → Accepted c at ≡ command_text_answer k (get_or p 3 0) (packet_text k p)
+    accepted_after : {a : Command × Place} {after : List ℕ} → Ok a ≡ command_text_answer k (get_or p 3 0) (packet_text k p)
         → after ≡ packet_text k p ++ drop (16 * blocks_in p) work
-        → (Accepted c at ≡ characteristic_answer_of k (length work) p) × (after ≡ characteristic_work_after k p work)
+        → (Ok a ≡ characteristic_answer_of k (length work) p) × (after ≡ characteristic_work_after k p work)
     unfolding command_text_answer characteristic_work_after
     accepted_after e w =
         let t = packet_text k p in
@@ -95,9 +96,9 @@ module _ (k : Link) (p work : List ℕ) where
         let s = accepted_behind refused_command (accepted_command t) (packet_entry_rules k (length work) p) r (blocks_in p) t work long entered e (none_broken (first_broken r) t e) w in
         (s.0 ∙ sym halves, s.1)
 
-    refused_after : {r : Refusal} {before after : List ℕ} {n : ℕ} → Refused r ≡ command_text_answer k (get_or p 3 0) (packet_text k p)
+    refused_after : {r : Refused} {before after : List ℕ} {n : ℕ} → Err r ≡ command_text_answer k (get_or p 3 0) (packet_text k p)
         → before ≡ packet_text k p ++ drop (16 * blocks_in p) work → n ≡ 16 * blocks_in p → after ≡ cleared n before
-        → (Refused r ≡ characteristic_answer_of k (length work) p) × (after ≡ characteristic_work_after k p work)
+        → (Err r ≡ characteristic_answer_of k (length work) p) × (after ≡ characteristic_work_after k p work)
     unfolding command_text_answer characteristic_work_after
     refused_after e w q c =
         let t = packet_text k p in
@@ -106,14 +107,14 @@ module _ (k : Link) (p work : List ℕ) where
         (s.0 ∙ sym halves, s.1)
 
     left_after : (a : CommandAnswer) {before after : List ℕ} {n : ℕ} → a ≡ command_text_answer k (get_or p 3 0) (packet_text k p)
-        → before ≡ packet_text k p ++ drop (16 * blocks_in p) work → n ≡ 16 * blocks_in p → after ≡ command_work_by n before a
+        → before ≡ packet_text k p ++ drop (16 * blocks_in p) work → n ≡ 16 * blocks_in p → after ≡ work_by n before a
         → (a ≡ characteristic_answer_of k (length work) p) × (after ≡ characteristic_work_after k p work)
-    left_after (Accepted c at) e w q z = accepted_after e (z ∙ w)
-    left_after (Refused r) e w q z = refused_after e w q z
+    left_after (Ok a) e w q z = accepted_after e (z ∙ w)
+    left_after (Err r) e w q z = refused_after e w q z
 
     -- either, by the answer; and the connection
     pub answered_after : {r : OpenedCommand} {before after : List ℕ} {n : ℕ} → r ≡ command_text_opened k (get_or p 3 0) (nonce_number p) (packet_text k p)
-        → before ≡ packet_text k p ++ drop (16 * blocks_in p) work → n ≡ 16 * blocks_in p → after ≡ command_work_by n before r.answer
+        → before ≡ packet_text k p ++ drop (16 * blocks_in p) work → n ≡ 16 * blocks_in p → after ≡ work_by n before r.answer
         → (r ≡ characteristic_opened k (length work) p) × (after ≡ characteristic_work_after k p work)
     unfolding characteristic_opened
     answered_after {r} e w q z =

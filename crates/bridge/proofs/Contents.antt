@@ -15,7 +15,10 @@ use Rattle.wire.specs.Parts.{part, part_of}
 use Rattle.wire.proofs.Lists.{part_in}
 use Rattle.wire.proofs.Choice.{or_fails}
 use Rattle.wire.proofs.Held.{held}
-use Rattle.wire.proofs.Rules.{first_none, first_right, none_append, judge_map, judge_pass}
+use Rattle.wire.proofs.Rules.{first_none, first_right, none_append, judge_pass}
+use Rattle.wire.specs.Refusals.{number_of, refusal_of}
+use Rattle.wire.proofs.Listed.{Listed, listed_append, listed_pick, judge_numbered}
+use Rattle.message.proofs.Reading.{message_listed}
 use Rattle.access.specs.Level.{level_of}
 use Rattle.control.specs.Command.{command_content}
 use Rattle.control.specs.Control.{command_rules, control_content, command_at}
@@ -32,17 +35,15 @@ use Rattle.envelope.proofs.Unsealed.{holds}
 use Rattle.envelope.proofs.Misfit.{message_in_text, packet_in_text}
 use Rattle.bridge.specs.Reply.{Entry, no_reply, error, code, entry_of, characteristic_entry_of, reply_entry, reply_for}
 use Rattle.bridge.specs.Place.{payload_at}
-use Rattle.bridge.specs.Content.{Given, uart_given, characteristic_given, answer_content, command_answer_content}
-use Rattle.bridge.specs.Opener.{head_rules, plain_rules, uart_entry_rules, uart_text, uart_text_rules, uart_open_rules, accepted_message, answer_of, opened, work_after, message_opened, OpensFrame}
-use Rattle.bridge.specs.Characteristic.{access_for, packet_entry_rules, packet_text, packet_text_rules, packet_open_rules, accepted_command, characteristic_answer_of, characteristic_work_after, characteristic_opened, OpensPacket}
+use Rattle.bridge.specs.Content.{Given, Answer, CommandAnswer, uart_given, characteristic_given, answer_content, command_answer_content}
+use Rattle.bridge.specs.Opener.{head_rules, plain_rules, session_rules, uart_entry_rules, uart_text, uart_text_rules, uart_open_rules, accepted_message, answer_of, opened, work_after, message_opened, OpensFrame}
+use Rattle.bridge.specs.Characteristic.{access_for, connection_rules, packet_entry_rules, packet_text, packet_text_rules, packet_open_rules, accepted_command, characteristic_answer_of, characteristic_work_after, characteristic_opened, OpensPacket}
 use Rattle.bridge.specs.Opening.{refused_answer, refused_command, blocks_after}
 use Rattle.bridge.proofs.Commands.{packet_whole}
 use Rattle.bridge.specs.declared.Context.{Context}
 use Rattle.bridge.specs.declared.Link.{Link}
 use Rattle.bridge.specs.declared.Opened.{Opened}
 use Rattle.bridge.specs.declared.OpenedCommand.{OpenedCommand}
-use Rattle.bridge.specs.declared.Answer.{Answer}
-use Rattle.bridge.specs.declared.CommandAnswer.{CommandAnswer}
 
 -- ---- refusals
 entry_back : (e : Entry) → reply_entry (reply_for e) ≡ e
@@ -50,8 +51,10 @@ entry_back no_reply = refl
 entry_back (error n) = refl
 entry_back (code n) = refl
 
-entry_given : (n : ℕ) (e : Entry) → ◌≡◌ {A = Given} (record { number = n; reply = reply_entry (reply_for e) }) (record { number = n; reply = e })
-entry_given n e = ap (λ (x : Entry). record { number = n; reply = x }) (entry_back e)
+-- a number that is a refusal's is handed out with its entry
+entry_given : (entry : ℕ → Entry) (n : ℕ) → number_of (refusal_of n) ≡ n
+    → ◌≡◌ {A = Given} (record { number = number_of (refusal_of n); reply = reply_entry (reply_for (entry (number_of (refusal_of n)))) }) (record { number = n; reply = entry n })
+entry_given entry n e = ap₂ (λ (k : ℕ) (x : Entry). record { number = k; reply = x }) e (entry_back (entry (number_of (refusal_of n))) ∙ ap entry e)
 
 -- ---- a message's payload, wherever the message stands
 drop_take : (k n : ℕ) (l : List ℕ) → k ≤ n → drop k (take n l) ≡ take (n - k) (drop k l)
@@ -145,13 +148,23 @@ module _ (g : Context) (major wrapper : ℕ) (p work : List ℕ) where
       (message_in_text t (drop (16 * blocks_in p) work) (held (late_rules t) (tt, (tt, tt)) z.0).1.0)
   accepted_content false e = plain_content g p work (none_append (head_rules major wrapper) (plain_rules g p) e).1
 
+  -- each number is a refusal's
+  frame_listed : Listed (uart_open_rules g (length work) major wrapper p)
+  unfolding uart_open_rules uart_entry_rules session_rules uart_text_rules late_rules plain_rules
+  frame_listed =
+      let entry = uart_entry_rules g (length work) p ++ uart_text_rules g (uart_text g p) in
+      listed_append (head_rules major wrapper) (pick (eqb wrapper 128) entry (plain_rules g p)) (tt, (tt, tt))
+      (listed_pick (eqb wrapper 128) entry (plain_rules g p)
+      (tt, (tt, (tt, (tt, (tt, (tt, (tt, (tt, message_listed Encrypted g.required g.mode (message_in (uart_text g p))))))))))
+      (tt, message_listed Plain g.required g.mode p))
+
   opened_content : answer_content (answer_of g (length work) major wrapper p) p (work_after g major wrapper p work)
       ≡ judge (λ n. refused (uart_given n)) (uart_open_rules g (length work) major wrapper p) (accepted (table_content (message_opened g wrapper p)))
   unfolding answer_of work_after uart_open_rules
   opened_content =
-      judge_map (λ (a : Answer). answer_content a p (work_after g major wrapper p work)) refused_answer (λ n. refused (uart_given n)) (uart_open_rules g (length work) major wrapper p)
+      judge_numbered (λ (a : Answer). answer_content a p (work_after g major wrapper p work)) refused_answer (λ n. refused (uart_given n)) (uart_open_rules g (length work) major wrapper p)
       (pick (eqb wrapper 128) (accepted_message true 6 (message_in (uart_text g p))) (accepted_message false 0 p)) (accepted (table_content (message_opened g wrapper p)))
-      (λ n. ap refused (entry_given n (entry_of n))) (accepted_content (eqb wrapper 128))
+      frame_listed (λ n e. ap refused (entry_given entry_of n e)) (accepted_content (eqb wrapper 128))
 
   -- the promise, from the equations by cases
   pub opens_frame : {r : Opened} {after : List ℕ} → r ≡ opened g (length work) major wrapper p → after ≡ work_after g major wrapper p work
@@ -166,15 +179,19 @@ module _ (g : Context) (major wrapper : ℕ) (p work : List ℕ) where
 
 -- ---- a packet
 module _ (k : Link) (p work : List ℕ) where
+  packet_listed : Listed (packet_open_rules k (length work) p)
+  unfolding packet_open_rules packet_entry_rules connection_rules packet_text_rules characteristic_rules
+  packet_listed = (tt, (tt, (tt, (tt, (tt, (tt, (tt, (tt, (tt, (tt, (tt, (tt, (tt, (tt, tt))))))))))))))
+
   packet_opened : command_answer_content (characteristic_answer_of k (length work) p) p (characteristic_work_after k p work)
       ≡ judge (λ n. refused (characteristic_given n)) (packet_open_rules k (length work) p) (accepted (control_content (packet_in (packet_text k p))))
   unfolding characteristic_answer_of characteristic_work_after packet_open_rules
   packet_opened =
       let t = packet_text k p in
       let rules = packet_text_rules k (get_or p 3 0) t in
-      judge_map (λ (a : CommandAnswer). command_answer_content a p (characteristic_work_after k p work)) refused_command (λ n. refused (characteristic_given n)) (packet_open_rules k (length work) p)
+      judge_numbered (λ (a : CommandAnswer). command_answer_content a p (characteristic_work_after k p work)) refused_command (λ n. refused (characteristic_given n)) (packet_open_rules k (length work) p)
       (accepted_command t) (accepted (control_content (packet_in t)))
-      (λ n. ap refused (entry_given n (characteristic_entry_of n)))
+      packet_listed (λ n e. ap refused (entry_given characteristic_entry_of n e))
       (λ e.
       let x = none_append (packet_entry_rules k (length work) p) rules e in
       let w : characteristic_work_after k p work ≡ t ++ drop (16 * blocks_in p) work =

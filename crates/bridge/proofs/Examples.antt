@@ -6,7 +6,7 @@ use Prim.Native.Nat.{ℕ}
 use lib.ListN.{replicate}
 use Rattle.wire.specs.Rules.{first_broken}
 use Rattle.access.specs.declared.Mode.TheVariants.{Normal}
-use Rattle.session.specs.Keys.{no_key}
+use Rattle.std.specs.Prelude.{Some, None}
 use Rattle.session.specs.Memory.{limited, remembered}
 use Rattle.session.specs.Session.{session_there, valid_at}
 use Rattle.bridge.specs.Opener.{session_rules}
@@ -24,7 +24,7 @@ at time =
         memory = record { count = 1; nonces = 0x030201 ∷ replicate 7 0 };
       };
       time = record { 0 = time };
-      keys = record { admin = record { held = true; bytes = replicate 16 7 }; member = no_key; basic = no_key; setup = no_key };
+      keys = record { admin = Some (replicate 16 7); member = None; basic = None; setup = None };
       mode = Normal;
       required = false;
     }

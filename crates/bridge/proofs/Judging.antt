@@ -15,7 +15,8 @@ use Rattle.wire.proofs.Choice.{or_fails}
 use Rattle.wire.specs.Parts.{part, part_of}
 use Rattle.wire.specs.Writing.{Stores, no_room}
 use Rattle.wire.proofs.Lists.{part_in}
-use Rattle.wire.specs.declared.Written.{Written}
+use Rattle.std.specs.Prelude.{Result}
+use Rattle.wire.specs.declared.refusals.Refusal.{Refusal}
 use Rattle.envelope.specs.Blocks.{outside, wrong_length, room_rule, blocks_in, cleared}
 use Rattle.bridge.specs.Opener.{block_rules}
 use Rattle.bridge.specs.Opening.{blocks_after}
@@ -62,7 +63,7 @@ blocks_whole p room more e =
 -- ---- the work buffer
 module _ (n : ℕ) (text work : List ℕ) (long : length text ≡ 16 * n) where
   -- the blocks as a store left them
-  pub blocks_stored : {answer : Written} {after : List ℕ} → Stores (no_room 0 text work ∷ []) 0 text work answer after → 16 * n ≤ length work
+  pub blocks_stored : {answer : Result ℕ Refusal} {after : List ℕ} → Stores (no_room 0 text work ∷ []) 0 text work answer after → 16 * n ≤ length work
       → after ≡ text ++ drop (16 * n) work
   blocks_stored w h =
       let fits : 0 + length text ≤ length work = omega arith in

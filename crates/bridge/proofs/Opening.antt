@@ -16,20 +16,21 @@ use Rattle.message.specs.declared.Form.{Form}
 use Rattle.message.specs.declared.Form.TheVariants.{Plain}
 use Rattle.message.specs.declared.Message.{Message}
 use Rattle.message.specs.declared.Message.TheVariants.{Hello, SessionNonce, Heartbeat, Status, GetMac, Control, HubReply}
-use Rattle.message.specs.declared.MessageRead.TheVariants.{Accepted as ReadAccepted, Refused as ReadRefused}
 use Rattle.session.specs.Session.{session_remembering}
 use Rattle.envelope.specs.Blocks.{blocks_in, nonce_number, cleared}
 use Rattle.envelope.specs.Sealed.{late_rules, message_in}
 use Rattle.envelope.proofs.Envelopes.{length_deciphered}
 use Rattle.bridge.specs.Opener.{plain_rules, accepted_message, session_rules, uart_entry_rules, uart_text, uart_text_rules, head_rules, uart_pass_rules, uart_open_rules, answer_of, session_by, session_after, opened, work_after, admin_key}
+use Rattle.std.specs.Prelude.{Ok, Err}
+use Rattle.wire.specs.Refusals.{refusing}
+use Rattle.session.specs.Keys.{key_bytes}
+use Rattle.bridge.specs.Content.{Answer}
 use Rattle.bridge.specs.Opening.{refused_answer, answer_by, session_by_answer, plain_answer, plain_session, text_answer, text_session, sealed_answer, sealed_session, opened_as, plain_opened, text_opened, sealed_opened, sealed_work, blocks_after, work_by}
 use Rattle.bridge.proofs.Judging.{judge_stop, blocks_whole, stopped_before, accepted_behind, refused_behind}
 use Rattle.bridge.specs.declared.Context.{Context}
 use Rattle.bridge.specs.declared.Opened.{Opened}
-use Rattle.bridge.specs.declared.Answer.{Answer}
-use Rattle.bridge.specs.declared.Answer.TheVariants.{Accepted, Refused}
 use Rattle.bridge.specs.declared.Place.{Place}
-use Rattle.bridge.specs.declared.Refusal.{Refusal}
+use Rattle.bridge.specs.declared.Refused.{Refused}
 
 -- a message's parts count from its data, or from behind a command's five bytes
 pub parts_at_most : (m : Message) → parts_at m ≤ 5
@@ -47,7 +48,7 @@ pub answer_read : (inWork : Bool) (start end : ℕ) (m : List ℕ) (f : Form) (g
     ≡ judge refused_answer (message_rules f g.required g.mode m) (accepted_message inWork start m)
 answer_read inWork start end m f g e =
     rw e
-    (verdict_map (answer_by inWork start (start + length m)) ReadRefused (first_broken (message_rules f g.required g.mode m)) (ReadAccepted (message_at m)))
+    (verdict_map (answer_by inWork start (start + length m)) refusing (first_broken (message_rules f g.required g.mode m)) (Ok (message_at m)))
 
 -- a plain message of 2 to 507 bytes
 pub plain_passes : (g : Context) (p : List ℕ) → 2 ≤ length p → length p ≤ 507
@@ -58,11 +59,11 @@ plain_passes g p h k =
     ap (λ (b : Bool). judge refused_answer ((7 when b) ∷ message_rules Plain g.required g.mode p) (accepted_message false 0 p)) e
 
 -- ---- an encrypted message, by what its text was read as
-none_broken : (n : ℕ) (l : List ℕ) {m : Message} {at : Place} → Accepted m at ≡ verdict refused_answer n (accepted_message true 6 l) → n ≡ 0
+none_broken : (n : ℕ) (l : List ℕ) {a : Message × Place} → Ok a ≡ verdict refused_answer n (accepted_message true 6 l) → n ≡ 0
 none_broken zero l e = refl
 none_broken (suc n) l e = absurd (let z : ◌≡◌ {A = ℕ} 0 1 = cc in omega arith)
 
-some_broken : (n : ℕ) (l : List ℕ) {r : Refusal} → Refused r ≡ verdict refused_answer n (accepted_message true 6 l) → n ≡ 0 → ⊥
+some_broken : (n : ℕ) (l : List ℕ) {r : Refused} → Err r ≡ verdict refused_answer n (accepted_message true 6 l) → n ≡ 0 → ⊥
 some_broken zero l e z = let y : ◌≡◌ {A = ℕ} 0 1 = cc in omega arith
 some_broken (suc n) l e z = omega arith
 
@@ -73,19 +74,19 @@ module _ (g : Context) (p work : List ℕ) (entered : first_broken (uart_entry_r
 
   pub long : length (uart_text g p) ≡ 16 * blocks_in p
   unfolding uart_text
-  long = length_deciphered (admin_key g).bytes g.session.nonce p ∙ (let e : length p - 4 ≡ 16 * blocks_in p = omega (arith, whole.0) in e)
+  long = length_deciphered (key_bytes (admin_key g)) g.session.nonce p ∙ (let e : length p - 4 ≡ 16 * blocks_in p = omega (arith, whole.0) in e)
 
-  accepted_after : {m : Message} {at : Place} {after : List ℕ} → Accepted m at ≡ text_answer g (uart_text g p)
-      → after ≡ uart_text g p ++ drop (16 * blocks_in p) work → (Accepted m at ≡ sealed_answer g (length work) p) × (after ≡ sealed_work g p work)
+  accepted_after : {a : Message × Place} {after : List ℕ} → Ok a ≡ text_answer g (uart_text g p)
+      → after ≡ uart_text g p ++ drop (16 * blocks_in p) work → (Ok a ≡ sealed_answer g (length work) p) × (after ≡ sealed_work g p work)
   unfolding text_answer sealed_answer sealed_work
   accepted_after e w =
       let t = uart_text g p in
       accepted_behind refused_answer (accepted_message true 6 (message_in t)) (uart_entry_rules g (length work) p) (uart_text_rules g t) (blocks_in p) t work long entered e
       (none_broken (first_broken (uart_text_rules g t)) (message_in t) e) w
 
-  refused_after : {r : Refusal} {before after : List ℕ} {k : ℕ} → Refused r ≡ text_answer g (uart_text g p)
+  refused_after : {r : Refused} {before after : List ℕ} {k : ℕ} → Err r ≡ text_answer g (uart_text g p)
       → before ≡ uart_text g p ++ drop (16 * blocks_in p) work → k ≡ 16 * blocks_in p → after ≡ cleared k before
-      → (Refused r ≡ sealed_answer g (length work) p) × (after ≡ sealed_work g p work)
+      → (Err r ≡ sealed_answer g (length work) p) × (after ≡ sealed_work g p work)
   unfolding text_answer sealed_answer sealed_work
   refused_after e w q c =
       let t = uart_text g p in
@@ -95,8 +96,8 @@ module _ (g : Context) (p work : List ℕ) (entered : first_broken (uart_entry_r
   left_after : (a : Answer) {before after : List ℕ} {k : ℕ} → a ≡ text_answer g (uart_text g p)
       → before ≡ uart_text g p ++ drop (16 * blocks_in p) work → k ≡ 16 * blocks_in p → after ≡ work_by k before a
       → (a ≡ sealed_answer g (length work) p) × (after ≡ sealed_work g p work)
-  left_after (Accepted m at) e w q c = accepted_after e (c ∙ w)
-  left_after (Refused r) e w q c = refused_after e w q c
+  left_after (Ok a) e w q c = accepted_after e (c ∙ w)
+  left_after (Err r) e w q c = refused_after e w q c
 
   -- either, by the answer; and the session
   pub answered_after : {r : Opened} {before after : List ℕ} {k : ℕ} → r ≡ text_opened g (nonce_number p) (uart_text g p)

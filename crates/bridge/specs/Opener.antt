@@ -1,8 +1,9 @@
 -- The opener of a frame: document 01, 'Numbers given when something is refused' and the two paragraphs behind the table; no 13 (document 02 §2), and
 -- 28 directly after 9 (document 02 §6).
-use Rattle.std.specs.Prelude.{ℕ, ◌+◌, ◌*◌, ◌≡◌, Bool, true, false, not, ◌||◌, List, [], ◌∷◌, ◌++◌, length, get_or, drop, replicate, eqb, ltb}
+use Rattle.std.specs.Prelude.{ℕ, ◌+◌, ◌*◌, ◌≡◌, Bool, true, false, not, ◌||◌, List, [], ◌∷◌, ◌++◌, length, get_or, drop, replicate, eqb, ltb, Option, is_some, Ok, Err}
 use Rattle.wire.specs.Choice.{pick}
 use Rattle.wire.specs.Rules.{Rule, ◌when◌, judge}
+use Rattle.wire.specs.Refusals.{refusal_of}
 use Rattle.wire.specs.Content.{accepted, refused}
 use Rattle.access.specs.declared.Level.TheVariants.{Admin}
 use Rattle.message.specs.Message.{parts_at}
@@ -11,17 +12,14 @@ use Rattle.message.specs.declared.Form.TheVariants.{Plain, Encrypted}
 use Rattle.message.specs.declared.Message.{Message}
 use Rattle.message.specs.declared.Message.TheVariants.{Hello, SessionNonce, Heartbeat, Status, GetMac, Control, HubReply}
 use Rattle.session.specs.Session.{session_there, with_nonce, valid_at, session_remembering}
-use Rattle.session.specs.Keys.{key_for}
-use Rattle.session.specs.declared.Key.{Key}
+use Rattle.session.specs.Keys.{key_bytes, key_for}
 use Rattle.session.specs.declared.Session.{Session}
 use Rattle.envelope.specs.Blocks.{blocks_in, deciphered, length_rule, room_rule, nonce_number, nonce_rule}
 use Rattle.envelope.specs.Sealed.{late_rules, message_in}
-use Rattle.bridge.specs.Reply.{refusal_of}
+use Rattle.bridge.specs.Reply.{uart_refused}
 use Rattle.bridge.specs.Place.{place_from}
-use Rattle.bridge.specs.Content.{uart_given, answer_content}
+use Rattle.bridge.specs.Content.{Answer, uart_given, answer_content}
 use Rattle.bridge.specs.declared.Context.{Context}
-use Rattle.bridge.specs.declared.Answer.{Answer}
-use Rattle.bridge.specs.declared.Answer.TheVariants.{Accepted, Refused}
 use Rattle.bridge.specs.declared.Opened.{Opened}
 
 -- ---- the rules, in the table's order
@@ -39,7 +37,7 @@ plain_rules g p =
     ∷ message_rules Plain g.required g.mode p
 
 -- key ID 0 means admin
-abbrev pub admin_key : Context → Key
+abbrev pub admin_key : Context → Option (List ℕ)
 admin_key g = key_for g.keys g.mode Admin
 
 -- an encrypted message or packet before anything else: 7, 25
@@ -49,7 +47,7 @@ block_rules p room = length_rule p ∷ room_rule p room ∷ []
 -- 10: key ID not 0, or no admin key held in this mode; 8: no session; 9: session run out; 28: a packet nonce used again
 unfoldable pub session_rules : Context → List ℕ → List Rule
 session_rules g p =
-    (10 when (not (eqb (get_or p 3 0) 0) || not (admin_key g).held))
+    (10 when (not (eqb (get_or p 3 0) 0) || not (is_some (admin_key g))))
     ∷ (8 when not (session_there g.session))
     ∷ (9 when not (valid_at g.session g.time))
     ∷ nonce_rule g.session.memory p
@@ -61,7 +59,7 @@ uart_entry_rules g room p = block_rules p room ++ session_rules g p
 
 -- the blocks of an encrypted message deciphered
 unfoldable pub uart_text : Context → List ℕ → List ℕ
-uart_text g p = deciphered (admin_key g).bytes g.session.nonce p
+uart_text g p = deciphered (key_bytes (admin_key g)) g.session.nonce p
 
 -- of the deciphered blocks: 11, 12; then 14 to 24
 unfoldable pub uart_text_rules : Context → List ℕ → List Rule
@@ -80,11 +78,11 @@ uart_open_rules g room major wrapper p =
 -- ---- the answer: the first broken rule, or the message and where its payload lies
 -- a message that stands behind so many bytes
 abbrev pub accepted_message : Bool → ℕ → List ℕ → Answer
-accepted_message inWork start m = Accepted (message_at m) (place_from inWork (start + (2 + parts_at (message_at m))) (start + length m))
+accepted_message inWork start m = Ok (message_at m, place_from inWork (start + (2 + parts_at (message_at m))) (start + length m))
 
 unfoldable pub answer_of : Context → ℕ → ℕ → ℕ → List ℕ → Answer
 answer_of g room major wrapper p =
-    judge (λ n. Refused (refusal_of n)) (uart_open_rules g room major wrapper p)
+    judge (λ n. Err (uart_refused (refusal_of n))) (uart_open_rules g room major wrapper p)
     (pick (eqb wrapper 128) (accepted_message true 6 (message_in (uart_text g p))) (accepted_message false 0 p))
 
 -- ---- the session after it

@@ -1,38 +1,36 @@
 -- How the code splits an opening, and what its parts come to. The laws in proofs/Opening.antt and Commands.antt put them together.
-use Rattle.std.specs.Prelude.{ℕ, ◌+◌, ◌*◌, Bool, true, false, List, ◌++◌, length, drop, replicate}
+use Rattle.std.specs.Prelude.{ℕ, ◌+◌, ◌*◌, Bool, true, false, List, ◌++◌, length, drop, replicate, Result, Ok, Err}
+use Rattle.wire.specs.Refusals.{refusal_of}
 use Rattle.wire.specs.Rules.{Rule, judge}
+use Rattle.wire.specs.declared.refusals.Refusal.{Refusal}
 use Rattle.message.specs.Message.{parts_at}
 use Rattle.message.specs.Reading.{message_at}
-use Rattle.message.specs.declared.MessageRead.{MessageRead}
-use Rattle.message.specs.declared.MessageRead.TheVariants.{Accepted as ReadAccepted, Refused as ReadRefused}
-use Rattle.control.specs.declared.ControlRead.{ControlRead}
-use Rattle.control.specs.declared.ControlRead.TheVariants.{Accepted as ControlAccepted, Refused as ControlRefused}
+use Rattle.message.specs.declared.Message.{Message}
+use Rattle.control.specs.declared.Command.{Command}
 use Rattle.session.specs.Session.{session_remembering, connection_remembering}
 use Rattle.session.specs.declared.Session.{Session}
 use Rattle.session.specs.declared.Connection.{Connection}
 use Rattle.envelope.specs.Blocks.{blocks_in, nonce_number, cleared}
 use Rattle.envelope.specs.Sealed.{late_rules, message_in}
 use Rattle.envelope.specs.Characteristic.{characteristic_rules}
-use Rattle.bridge.specs.Reply.{refusal_of, characteristic_refusal}
+use Rattle.bridge.specs.Reply.{uart_refused, characteristic_refused}
+use Rattle.bridge.specs.Content.{Answer, CommandAnswer}
 use Rattle.bridge.specs.Place.{place_from}
 use Rattle.bridge.specs.Opener.{plain_rules, uart_entry_rules, uart_text_rules, uart_text, accepted_message, session_by}
 use Rattle.bridge.specs.Characteristic.{accepted_command, packet_text_rules}
+use Rattle.bridge.specs.declared.Refused.{Refused}
 use Rattle.bridge.specs.declared.Context.{Context}
 use Rattle.bridge.specs.declared.Link.{Link}
-use Rattle.bridge.specs.declared.Answer.{Answer}
-use Rattle.bridge.specs.declared.Answer.TheVariants.{Accepted, Refused}
 use Rattle.bridge.specs.declared.Opened.{Opened}
 use Rattle.bridge.specs.declared.OpenedCommand.{OpenedCommand}
-use Rattle.bridge.specs.declared.CommandAnswer.{CommandAnswer}
-use Rattle.bridge.specs.declared.CommandAnswer.TheVariants.{Accepted as CommandAccepted, Refused as CommandRefused}
 
 abbrev pub refused_answer : ℕ → Answer
-refused_answer n = Refused (refusal_of n)
+refused_answer n = Err (uart_refused (refusal_of n))
 
 -- the answer by what a message was read as: where it begins, and where it ends
-abbrev pub answer_by : Bool → ℕ → ℕ → MessageRead → Answer
-answer_by inWork start end (ReadAccepted m) = Accepted m (place_from inWork (start + (2 + parts_at m)) end)
-answer_by inWork start end (ReadRefused n) = refused_answer n
+abbrev pub answer_by : Bool → ℕ → ℕ → Result Message Refusal → Answer
+answer_by inWork start end (Ok m) = Ok (m, place_from inWork (start + (2 + parts_at m)) end)
+answer_by inWork start end (Err r) = Err (uart_refused r)
 
 abbrev pub opened_as : Answer → Session → Opened
 opened_as a s = record { answer = a; session = s }
@@ -49,8 +47,8 @@ plain_opened g p = opened_as (plain_answer g p) (plain_session g p)
 
 -- that session as the code has it, by the answer
 abbrev pub session_by_answer : Context → Answer → Session
-session_by_answer g (Accepted m at) = session_by g m
-session_by_answer g (Refused r) = g.session
+session_by_answer g (Ok a) = session_by g a.0
+session_by_answer g (Err r) = g.session
 
 -- what an encrypted message deciphered to, with the number of its packet nonce
 unfoldable pub text_answer : Context → List ℕ → Answer
@@ -81,18 +79,18 @@ sealed_work g p work =
     judge (λ n. work) (uart_entry_rules g (length work) p) (blocks_after (blocks_in p) (uart_text_rules g (uart_text g p)) (uart_text g p) work)
 
 -- what an answer leaves of a work buffer whose first n bytes were deciphered
-abbrev pub work_by : ℕ → List ℕ → Answer → List ℕ
-work_by n work (Accepted m at) = work
-work_by n work (Refused r) = cleared n work
+abbrev pub work_by : {A : Type 0} → ℕ → List ℕ → Result A Refused → List ℕ
+work_by n work (Ok a) = work
+work_by n work (Err r) = cleared n work
 
 -- ---- a characteristic packet
 abbrev pub refused_command : ℕ → CommandAnswer
-refused_command n = CommandRefused (characteristic_refusal n)
+refused_command n = Err (characteristic_refused (refusal_of n))
 
 -- a command by what a packet was read as: where it ends, behind the validation key
-abbrev pub command_answer_by : ℕ → ControlRead → CommandAnswer
-command_answer_by end (ControlAccepted c) = CommandAccepted c (place_from true 9 end)
-command_answer_by end (ControlRefused n) = refused_command n
+abbrev pub command_answer_by : ℕ → Result Command Refusal → CommandAnswer
+command_answer_by end (Ok c) = Ok (c, place_from true 9 end)
+command_answer_by end (Err r) = Err (characteristic_refused r)
 
 -- what a packet deciphered to
 unfoldable pub command_text_answer : Link → ℕ → List ℕ → CommandAnswer
@@ -107,7 +105,3 @@ opened_command_as a c = record { answer = a; connection = c }
 
 abbrev pub command_text_opened : Link → ℕ → ℕ → List ℕ → OpenedCommand
 command_text_opened k level number text = opened_command_as (command_text_answer k level text) (text_connection k number text)
-
-abbrev pub command_work_by : ℕ → List ℕ → CommandAnswer → List ℕ
-command_work_by n work (CommandAccepted c at) = work
-command_work_by n work (CommandRefused r) = cleared n work

@@ -1,10 +1,12 @@
 -- Document 01's table of refusals, column 'reply'.
-use Rattle.std.specs.Prelude.{ℕ, ◌||◌, List, [], ◌∷◌, ltb, eqb}
+use Rattle.std.specs.Prelude.{ℕ, ◌||◌, List, [], ◌∷◌, ltb, eqb, Option, Some, None}
 use Rattle.wire.specs.Choice.{pick}
 use Rattle.wire.specs.Lookup.{lookup}
+use Rattle.wire.specs.Refusals.{number_of}
+use Rattle.wire.specs.declared.refusals.Refusal.{Refusal}
 use Rattle.bridge.specs.declared.Reply.{Reply}
-use Rattle.bridge.specs.declared.Reply.TheVariants.{Nothing, Error, Code}
-use Rattle.bridge.specs.declared.Refusal.{Refusal}
+use Rattle.bridge.specs.declared.Reply.TheVariants.{Error, Code}
+use Rattle.bridge.specs.declared.Refused.{Refused}
 
 -- an entry of the column: none, an error type, or a result code
 pub data Entry : Type 0 where
@@ -55,21 +57,22 @@ entry_of n = lookup number_in entry_in no_reply replies n
 unfoldable pub characteristic_entry_of : ℕ → Entry
 characteristic_entry_of n = pick (ltb n 18 || eqb n 25) no_reply (entry_of n)
 
--- ---- the enum
--- the entry that each case is
-abbrev pub reply_entry : Reply → Entry
-reply_entry Nothing = no_reply
-reply_entry (Error n) = error n
-reply_entry (Code n) = code n
+-- ---- the types
+-- the entry that each reply is
+abbrev pub reply_entry : Option Reply → Entry
+reply_entry None = no_reply
+reply_entry (Some (Error n)) = error n
+reply_entry (Some (Code n)) = code n
 
--- the case that an entry is
-abbrev pub reply_for : Entry → Reply
-reply_for no_reply = Nothing
-reply_for (error n) = Error n
-reply_for (code n) = Code n
+-- the reply that an entry is
+abbrev pub reply_for : Entry → Option Reply
+reply_for no_reply = None
+reply_for (error n) = Some (Error n)
+reply_for (code n) = Some (Code n)
 
-abbrev pub refusal_of : ℕ → Refusal
-refusal_of n = record { number = n; reply = reply_for (entry_of n) }
+-- a refusal with its reply, on the UART and on the characteristic
+abbrev pub uart_refused : Refusal → Refused
+uart_refused r = record { refusal = r; reply = reply_for (entry_of (number_of r)) }
 
-abbrev pub characteristic_refusal : ℕ → Refusal
-characteristic_refusal n = record { number = n; reply = reply_for (characteristic_entry_of n) }
+abbrev pub characteristic_refused : Refusal → Refused
+characteristic_refused r = record { refusal = r; reply = reply_for (characteristic_entry_of (number_of r)) }

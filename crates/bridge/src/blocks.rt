@@ -1,14 +1,25 @@
-// What both routes ask of an encrypted payload before anything else.
+// What both routes do alike: what they ask of an encrypted payload before anything else, and what a refusal leaves of it.
 ghost use Rattle.std.specs.Prelude.{◌≡◌};
-ghost use Rattle.wire.specs.Rules.{first_broken};
+ghost use Rattle.wire.specs.Refusals.{checked_by};
 ghost use Rattle.bridge.specs.Opener.{block_rules};
+ghost use Rattle.bridge.specs.Opening.{work_by};
 
-// 7 and 25, or 0.
-pub fn block_refusal(payload: &[u8], room: usize) -> u8
-    ensures { result ≡ first_broken (block_rules payload.now room) }
+use crate::Refused;
+use wire::Refusal;
+
+// 7 and 25.
+pub fn judge_blocks(payload: &[u8], room: usize) -> Result<(), Refusal>
+    ensures { result ≡ checked_by (block_rules payload.now room) }
 {
-    if envelope::judge_length(payload) != 0 {
-        return 7;
-    }
+    envelope::judge_length(payload)?;
     envelope::judge_room(payload, room)
+}
+
+// A refusal leaves the first n work bytes zero.
+pub fn clear_refused<A>(answer: &Result<A, Refused>, work: &mut [u8], n: usize)
+    ensures { work.new ≡ work_by n work.old answer.now }
+{
+    if answer.is_err() {
+        envelope::clear(work, n);
+    }
 }

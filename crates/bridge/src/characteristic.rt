@@ -1,46 +1,45 @@
 // The opener of characteristic packets.
-ghost use Rattle.std.specs.Prelude.{◌≡◌, ◌++◌, ◌+◌, ◌*◌, ◌≤◌, length, drop};
-ghost use Rattle.wire.specs.Rules.{first_broken};
+ghost use Rattle.std.specs.Prelude.{◌≡◌, Ok, Err, ◌++◌, ◌+◌, ◌*◌, ◌≤◌, length, drop};
+ghost use Rattle.wire.specs.Rules.{first_broken, judge};
+ghost use Rattle.wire.specs.Refusals.{refusing};
+ghost use Rattle.session.specs.Keys.{key_bytes};
 ghost use Rattle.access.specs.Level.{level_of};
 ghost use Rattle.envelope.specs.Blocks.{blocks_in};
+ghost use Rattle.envelope.specs.Characteristic.{characteristic_rules};
 ghost use Rattle.bridge.specs.Characteristic as specs;
 ghost use Rattle.bridge.specs.Opening as opening;
+ghost use Rattle.bridge.specs.Reply.{characteristic_refused};
 
-use crate::blocks::block_refusal;
-use crate::replies::characteristic_refusal;
-use crate::{CommandAnswer, Link, OpenedCommand, Place};
-use access::{Access, LevelRead};
+use crate::blocks::{clear_refused, judge_blocks};
+use crate::replies::characteristic_refused;
+use crate::{Link, OpenedCommand, Place, Refused};
+use access::Access;
 use aes::block_cipher::BlockCipher;
-use control::ControlRead;
-use wire::Part;
+use control::Command;
+use wire::{Part, Refusal};
 
-// 10, 8 and 28, or 0.
-fn connection_refusal(link: Link, packet: &[u8]) -> u8
-    ensures { result ≡ first_broken (specs.connection_rules link packet.now) }
+// The key of the level that a packet names, or 10, 8 and 28.
+fn connection_key(link: Link, packet: &[u8]) -> Result<[u8; 16], Refusal>
+    ensures { result ≡ judge refusing (specs.connection_rules link packet.now) (Ok (key_bytes (specs.level_key link packet.now))) }
 {
-    let keys = link.keys;
-    let mode = link.mode;
-    let key = keys.serving_number(mode, wire::byte_at(packet, 3));
-    if key.held {
-        let connection = link.connection;
-        if connection.is_there() {
-            let memory = connection.memory;
-            return envelope::judge_nonce(memory, packet);
-        }
-        return 8;
+    let connection = link.connection;
+    let level = wire::byte_at(packet, 3);
+    let Some(key) = link.keys.serving_number(link.mode, level) else {
+        return Err(Refusal::NoKey);
+    };
+    if !connection.is_there() {
+        return Err(Refusal::NoSession);
     }
-    10
+    envelope::judge_nonce(connection.memory, packet)?;
+    Ok(key)
 }
 
-// What is refused of a packet before it is deciphered: 7, 25, 10, 8, 28, or 0.
-fn entry_refusal(packet: &[u8], room: usize, link: Link) -> u8
-    ensures { result ≡ first_broken (specs.packet_entry_rules link room packet.now) }
+// The key of a packet's level, or what is refused of the packet before it is deciphered: 7, 25, 10, 8, 28.
+fn admitted(packet: &[u8], room: usize, link: Link) -> Result<[u8; 16], Refusal>
+    ensures { result ≡ judge refusing (specs.packet_entry_rules link room packet.now) (Ok (key_bytes (specs.level_key link packet.now))) }
 {
-    let early = block_refusal(packet, room);
-    if early != 0 {
-        return early;
-    }
-    connection_refusal(link, packet)
+    judge_blocks(packet, room)?;
+    connection_key(link, packet)
 }
 
 // A level's access.
@@ -48,28 +47,31 @@ fn access_for(level: u8) -> Access
     ensures { result ≡ specs.access_for (level_of level) }
 {
     match access::level_of(level) {
-        LevelRead::Known(l) => Access::Keyed(l),
-        LevelRead::Unknown => Access::Unknown,
+        Some(l) => Access::Keyed(l),
+        None => Access::Unknown,
     }
 }
 
 // The answer by what a packet was read as, and where it ends.
-fn answer_by(end: usize, read: ControlRead) -> CommandAnswer
+fn answer_by(end: usize, read: Result<Command, Refusal>) -> Result<(Command, Place), Refused>
     requires { 9 ≤ end }
     ensures { result ≡ opening.command_answer_by end read }
 {
     match read {
-        ControlRead::Accepted(c) => CommandAnswer::Accepted(
-            c,
-            Place {
-                in_work: true,
-                part: Part {
-                    start: 9,
-                    len: end - 9,
+        Ok(c) => {
+            let part = Part {
+                start: 9,
+                len: end - 9,
+            };
+            Ok((
+                c,
+                Place {
+                    in_work: true,
+                    part,
                 },
-            },
-        ),
-        ControlRead::Refused(n) => CommandAnswer::Refused(characteristic_refusal(n)),
+            ))
+        }
+        Err(refusal) => Err(characteristic_refused(refusal)),
     }
 }
 
@@ -82,12 +84,26 @@ fn end_of(packet: &[u8]) -> usize
 }
 
 // A refusal that leaves the connection session as it was.
-fn refused(number: u8, link: Link) -> OpenedCommand
-    ensures { result ≡ record { answer = opening.refused_command number; connection = link.connection } }
+fn refused(refusal: Refusal, link: Link) -> OpenedCommand
+    ensures { result ≡ record { answer = Err (characteristic_refused refusal); connection = link.connection } }
 {
-    let answer = CommandAnswer::Refused(characteristic_refusal(number));
-    let connection = link.connection;
-    OpenedCommand { answer, connection }
+    OpenedCommand {
+        answer: Err(characteristic_refused(refusal)),
+        connection: link.connection,
+    }
+}
+
+// The packet in a text that gives none of 11, 18 and 13: 19 to 24, or the command; and the connection session after it.
+fn read_packet(text: &[u8], level: u8, link: Link, number: u32) -> OpenedCommand
+    requires { first_broken (characteristic_rules link.connection.validation text.now) ≡ 0 }
+    ensures { result ≡ opening.command_text_opened link level number text.now }
+{
+    let packet = envelope::packet_in(text);
+    let read = control::read_control(packet, link.mode, access_for(level));
+    OpenedCommand {
+        answer: answer_by(end_of(packet), read),
+        connection: link.connection.remember(number),
+    }
 }
 
 // What a packet deciphered to: 11, 18, 13, 19 to 24, or the command; and the connection session after it, which remembers the number of its packet nonce
@@ -95,64 +111,49 @@ fn refused(number: u8, link: Link) -> OpenedCommand
 fn read_text(text: &[u8], level: u8, link: Link, number: u32) -> OpenedCommand
     ensures { result ≡ opening.command_text_opened link level number text.now }
 {
-    let old = link.connection;
-    let validation = old.validation;
-    let late = envelope::judge_characteristic(validation, text);
-    if late != 0 {
-        return refused(late, link);
+    let validation = link.connection.validation;
+    match envelope::judge_characteristic(validation, text) {
+        Ok(()) => read_packet(text, level, link, number),
+        Err(refusal) => refused(refusal, link),
     }
-    let packet = envelope::packet_in(text);
-    let mode = link.mode;
-    let answer = answer_by(
-        end_of(packet),
-        control::read_control(packet, mode, access_for(level)),
-    );
-    let connection = old.remember(number);
-    OpenedCommand { answer, connection }
 }
 
 // The blocks of a packet into the work buffer, which has room for them.
-fn decipher<C: BlockCipher>(packet: &[u8], link: Link, work: &mut [u8])
-    requires { first_broken (specs.packet_entry_rules link (length work.old) packet.now) ≡ 0 }
+fn decipher<C: BlockCipher>(key: [u8; 16], packet: &[u8], link: Link, work: &mut [u8])
+    requires entered { first_broken (specs.packet_entry_rules link (length work.old) packet.now) ≡ 0 }
+    requires held { key ≡ key_bytes (specs.level_key link packet.now) }
     ensures { work.new ≡ specs.packet_text link packet.now ++ drop (16 * blocks_in packet.now) work.old }
 {
-    let keys = link.keys;
-    let mode = link.mode;
-    let key = keys.serving_number(mode, wire::byte_at(packet, 3));
-    let bytes = key.bytes;
-    let connection = link.connection;
-    let nonce = connection.nonce;
-    envelope::decipher::<C>(bytes, nonce, packet, work);
+    let nonce = link.connection.nonce;
+    let _ = envelope::decipher::<C>(key, nonce, packet, work);
 }
 
-// A refusal leaves the first n work bytes zero.
-fn clear_refused(answer: CommandAnswer, work: &mut [u8], n: usize)
-    ensures { work.new ≡ opening.command_work_by n work.old answer }
+// A packet that has passed what is asked of it before it is deciphered.
+fn open_admitted<C: BlockCipher>(
+    key: [u8; 16],
+    packet: &[u8],
+    link: Link,
+    work: &mut [u8],
+) -> OpenedCommand
+    requires entered { first_broken (specs.packet_entry_rules link (length work.old) packet.now) ≡ 0 }
+    requires held { key ≡ key_bytes (specs.level_key link packet.now) }
+    ensures { specs.OpensPacket link packet.now work.old result work.new }
 {
-    match answer {
-        CommandAnswer::Accepted(_, _) => (),
-        CommandAnswer::Refused(_) => envelope::clear(work, n),
-    }
+    decipher::<C>(key, packet, link, work);
+    let n = packet.len() - 4;
+    let blocks = wire::part_of(work, Part { start: 0, len: n });
+    let level = wire::byte_at(packet, 3);
+    let opened = read_text(blocks, level, link, envelope::nonce_number(packet));
+    clear_refused(&opened.answer, work, n);
+    opened
 }
 
 // Opens a characteristic packet: the command and where its payload lies, or the refusal with its reply; and the connection session after it.
 pub fn open<C: BlockCipher>(packet: &[u8], link: Link, work: &mut [u8]) -> OpenedCommand
     ensures { specs.OpensPacket link packet.now work.old result work.new }
 {
-    let early = entry_refusal(packet, work.len(), link);
-    if early != 0 {
-        return refused(early, link);
+    match admitted(packet, work.len(), link) {
+        Ok(key) => open_admitted::<C>(key, packet, link, work),
+        Err(refusal) => refused(refusal, link),
     }
-    decipher::<C>(packet, link, work);
-    let n = packet.len() - 4;
-    let blocks = Part { start: 0, len: n };
-    let opened = read_text(
-        wire::part_of(work, blocks),
-        wire::byte_at(packet, 3),
-        link,
-        envelope::nonce_number(packet),
-    );
-    let answer = opened.answer;
-    clear_refused(answer, work, n);
-    opened
 }

@@ -10,13 +10,11 @@ ghost use Rattle.std.specs.Prelude.{◌≡◌};
 ghost use Rattle.bridge.specs.Place.{payload_at};
 
 use access::Mode;
-pub use blocks::block_refusal;
 use control::Command;
 use message::Message;
-pub use replies::{characteristic_refusal, refusal as uart_refusal};
 use session::{Connection, Keys, Session};
 use units::Seconds;
-use wire::Part;
+use wire::{Part, Refusal};
 
 // What the opener of frames is given beside a frame and the work buffer.
 #[derive(Clone, Copy)]
@@ -37,18 +35,18 @@ pub struct Link {
     pub mode: Mode,
 }
 
-// The table's reply: none, an error type of the UART, or a result code.
+// The table's reply: an error type of the UART, or a result code.
 #[derive(Clone, Copy)]
 pub enum Reply {
-    Nothing,
     Error(u16),
     Code(u16),
 }
 
+// A refusal, and the reply that it gets, if any.
 #[derive(Clone, Copy)]
-pub struct Refusal {
-    pub number: u8,
-    pub reply: Reply,
+pub struct Refused {
+    pub refusal: Refusal,
+    pub reply: Option<Reply>,
 }
 
 // A part of the work buffer, or of the frame's payload.
@@ -58,31 +56,18 @@ pub struct Place {
     pub part: Part,
 }
 
-// The place is where the message's data lie, or a command's payload: what the parts in the message count from.
-#[derive(Clone, Copy)]
-pub enum Answer {
-    Accepted(Message, Place),
-    Refused(Refusal),
-}
-
-// The session after the frame goes into the next opening, also where the answer is a refusal.
+// The message and where its data lie, or a command's payload: what the parts in the message count from. The session after the frame goes into the next
+// opening, also where the answer is a refusal.
 #[derive(Clone, Copy)]
 pub struct Opened {
-    pub answer: Answer,
+    pub answer: Result<(Message, Place), Refused>,
     pub session: Session,
 }
 
-// The place is where the command's payload lies.
-#[derive(Clone, Copy)]
-pub enum CommandAnswer {
-    Accepted(Command, Place),
-    Refused(Refusal),
-}
-
-// The connection session after the packet goes into the next opening, also where the answer is a refusal.
+// The command and where its payload lies. The connection session after the packet goes into the next opening, also where the answer is a refusal.
 #[derive(Clone, Copy)]
 pub struct OpenedCommand {
-    pub answer: CommandAnswer,
+    pub answer: Result<(Command, Place), Refused>,
     pub connection: Connection,
 }
 
@@ -90,10 +75,9 @@ pub struct OpenedCommand {
 pub fn payload<'a>(frame: &'a [u8], work: &'a [u8], place: Place) -> &'a [u8]
     ensures { result.now ≡ payload_at frame.now work.now place }
 {
-    let part = place.part;
     if place.in_work {
-        wire::part_of(work, part)
+        wire::part_of(work, place.part)
     } else {
-        wire::part_of(frame, part)
+        wire::part_of(frame, place.part)
     }
 }

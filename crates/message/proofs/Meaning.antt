@@ -26,7 +26,7 @@ use Rattle.message.specs.Reading.{message_rules, message_of, message_at, read_me
 use Rattle.message.specs.Holds.{table_bytes, MessageHolds}
 use Rattle.message.specs.Accepts.{AcceptsBody}
 use Rattle.message.proofs.Accepts.{message_accepts}
-use Rattle.message.proofs.Reading.{body_listed}
+use Rattle.message.proofs.Reading.{message_listed}
 use Rattle.message.specs.declared.Form.{Form}
 use Rattle.std.specs.Prelude.{Result, Ok}
 use Rattle.wire.specs.declared.refusals.Refusal.{Refusal}
@@ -83,6 +83,6 @@ reads_message p f required mode e =
       content =
           ap (λ (r : Result Message Refusal). message_answer r p) e
           ∙ judge_listed (λ (r : Result Message Refusal). message_answer r p) refused (message_rules f required mode p) (Ok (message_at p))
-          (accepted (table_content p)) (tt, (tt, (tt, body_listed (type_of (num 2 0 p)).body f mode (drop 2 p)))) (λ r. refl) (λ h. ap accepted (message_holds f required mode p h).content);
+          (accepted (table_content p)) (message_listed f required mode p) (λ r. refl) (λ h. ap accepted (message_holds f required mode p h).content);
       answer = e;
     }

@@ -3,6 +3,8 @@ use mathlib.Core.Path.{◌≡◌, sym, ap, ◌∙◌}
 use Prim.Native.Nat.{ℕ}
 use mathlib.Core.Bool.{Bool, true}
 use mathlib.Core.List.{List}
+use lib.ListN.{drop}
+use Rattle.wire.specs.Numbers.{num}
 use Rattle.wire.specs.Rules.{judge, first_broken}
 use Rattle.wire.proofs.Rules.{judge_append, verdict_map}
 use Rattle.wire.proofs.Listed.{Listed}
@@ -10,8 +12,8 @@ use Rattle.access.specs.declared.Mode.{Mode}
 use Rattle.control.specs.Control.{read_control, control_rules, command_at}
 use Rattle.wire.specs.declared.refusals.Refusal.{Refusal}
 use Rattle.control.specs.declared.Command.{Command}
-use Rattle.message.specs.Table.{Body, fields, packet, Row, access_of}
-use Rattle.message.specs.Reading.{form_rules, body_rules, message_of, read_type, read_body}
+use Rattle.message.specs.Table.{Body, fields, packet, Row, type_of, access_of}
+use Rattle.message.specs.Reading.{form_rules, body_rules, message_rules, message_of, read_type, read_body}
 use Rattle.message.specs.declared.Form.{Form}
 use Rattle.message.specs.declared.Message.TheVariants.{Control}
 use Rattle.message.specs.declared.Message.{Message}
@@ -38,3 +40,6 @@ packet_read d f mode e = ap of_read e ∙ verdict_map of_read refusing (first_br
 pub body_listed : (b : Body) (f : Form) (mode : Mode) (d : List ℕ) → Listed (body_rules b f mode d)
 body_listed (fields l make) f mode d = (tt, tt)
 body_listed packet f mode d = (tt, (tt, (tt, (tt, (tt, (tt, (tt, tt)))))))
+
+pub message_listed : (f : Form) (required : Bool) (mode : Mode) (p : List ℕ) → Listed (message_rules f required mode p)
+message_listed f required mode p = (tt, (tt, (tt, body_listed (type_of (num 2 0 p)).body f mode (drop 2 p))))

@@ -9,6 +9,7 @@ use borrow.Author.Tests.{eqb-true}
 use Rattle.std.specs.Prelude.{Result, Ok, Err}
 use Rattle.wire.specs.Refusals.{number_of, refusal_of, refusing, checked_by}
 use Rattle.wire.proofs.Rules.{judge_append, judge_pass}
+use Rattle.wire.specs.Choice.{pick}
 use Rattle.wire.specs.Rules.{Rule, ◌when◌, first_broken, verdict, judge}
 use Rattle.wire.specs.declared.refusals.Refusal.{Refusal}
 
@@ -72,3 +73,39 @@ checked_refused xs good {r = r} e = go (first_broken xs) e
 
 pub checked_passed : {A : Type 0} (xs : List Rule) (good : Result A Refusal) → Ok tt ≡ checked_by xs → good ≡ judge refusing xs good
 checked_passed xs good e = sym (judge_pass refusing xs good (checked_ok xs e))
+
+-- ---- lists of rules
+pub listed_append : (xs ys : List Rule) → Listed xs → Listed ys → Listed (xs ++ ys)
+listed_append [] ys l k = k
+listed_append ((n when b) ∷ xs) ys l k = (l.0, listed_append xs ys l.1 k)
+
+pub listed_pick : (b : Bool) (xs ys : List Rule) → Listed xs → Listed ys → Listed (pick b xs ys)
+listed_pick true xs ys l k = l
+listed_pick false xs ys l k = k
+
+-- what is known of the rules by an answer: none is broken where it is good, and its refusal is that of the first broken one
+pub judged_ok : {A : Type 0} (rules : List Rule) {a b : A} → Ok a ≡ judge refusing rules (Ok b) → (first_broken rules ≡ 0) × (a ≡ b)
+judged_ok {A = A} rules {a = a} {b = b} e = go (first_broken rules) e
+  where
+    go : (n : ℕ) → ◌≡◌ {A = Result A Refusal} (Ok a) (verdict refusing n (Ok b)) → (n ≡ 0) × (a ≡ b)
+    go zero h = (refl, cc)
+    go (suc n) h = absurd (let z : ◌≡◌ {A = ℕ} 0 1 = cc in omega arith)
+
+pub judged_err : {A : Type 0} (rules : List Rule) (b : A) {r : Refusal} → Err r ≡ judge refusing rules (Ok b)
+    → (n : ℕ) × (suc n ≡ first_broken rules) × (refusal_of (suc n) ≡ r)
+judged_err {A = A} rules b {r = r} e = go (first_broken rules) refl e
+  where
+    go : (n : ℕ) → n ≡ first_broken rules → ◌≡◌ {A = Result A Refusal} (Err r) (verdict refusing n (Ok b))
+        → (k : ℕ) × (suc k ≡ first_broken rules) × (refusal_of (suc k) ≡ r)
+    go zero q h = absurd (let z : ◌≡◌ {A = ℕ} 0 1 = cc in omega arith)
+    go (suc k) q h = (k, q, cc)
+
+-- a function of an answer, known of each refusal that has a number and, with no rule broken, of the good answer
+pub judge_numbered {ℓ ℓ'} : {A : Type ℓ} {B : Type ℓ'} (f : A → B) (refuse : ℕ → A) (refuse' : ℕ → B) (rules : List Rule) (good : A) (good' : B)
+    → Listed rules → ((n : ℕ) → number_of (refusal_of n) ≡ n → f (refuse n) ≡ refuse' n) → (first_broken rules ≡ 0 → f good ≡ good')
+    → f (judge refuse rules good) ≡ judge refuse' rules good'
+judge_numbered f refuse refuse' rules good good' l r g = go (first_broken rules) refl
+  where
+    go : (n : ℕ) → first_broken rules ≡ n → f (verdict refuse n good) ≡ verdict refuse' n good'
+    go zero e = g e
+    go (suc n) e = r (suc n) (first_listed rules l n e)

@@ -8,8 +8,7 @@ use Rattle.bridge.proofs.uart.decipher.Goals as goal
 pub returns : goal.returns
 unfolding uart_text
 returns g c =
-    let s = c in
-    let a = s.args in
+    let a = c.args in
     let p = a.payload.now in
-    blocks_stored (blocks_in p) (uart_text a.context p) a.work.now (long a.context p a.work.now s.requires)
-    (rw c.serving-key.ensures at c.decipher.ensures) (whole a.context p a.work.now s.requires).1
+    blocks_stored (blocks_in p) (uart_text a.context p) a.work.now (long a.context p a.work.now c.requires.entered)
+    (rw c.requires.held at c.decipher.ensures) (whole a.context p a.work.now c.requires.entered).1
