@@ -11,30 +11,10 @@ use wire::{Refusal, count_from};
 pub fn counter_block(pn: [u8; 3], sn: [u8; 5], i: usize) -> [u8; 16]
     ensures { result ≡ counter_block pn sn i }
 {
-    let i1 = i / 256;
-    let i2 = i1 / 256;
-    let i3 = i2 / 256;
-    let i4 = i3 / 256;
-    let i5 = i4 / 256;
-    let i6 = i5 / 256;
-    let i7 = i6 / 256;
+    let c = (i as u64).to_be_bytes();
     [
-        pn[0],
-        pn[1],
-        pn[2],
-        sn[0],
-        sn[1],
-        sn[2],
-        sn[3],
-        sn[4],
-        (i7 % 256) as u8,
-        (i6 % 256) as u8,
-        (i5 % 256) as u8,
-        (i4 % 256) as u8,
-        (i3 % 256) as u8,
-        (i2 % 256) as u8,
-        (i1 % 256) as u8,
-        (i % 256) as u8,
+        pn[0], pn[1], pn[2], sn[0], sn[1], sn[2], sn[3], sn[4], c[0], c[1], c[2], c[3], c[4], c[5],
+        c[6], c[7],
     ]
 }
 

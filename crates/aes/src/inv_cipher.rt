@@ -1,11 +1,11 @@
 // The inverse cipher: FIPS 197, section 5.3.
-ghost use Rattle.std.specs.Prelude.{◌≡◌, ◌∷◌, [], get_or};
+ghost use Rattle.std.specs.Prelude.{◌≡◌};
 ghost use Rattle.aes.specs.Box.{inv_affine, inv_sub_byte};
 ghost use Rattle.aes.specs.Packed.{each};
-ghost use Rattle.aes.specs.Cipher.{four};
 ghost use Rattle.aes.specs.InvCipher.{inv_shift_rows, inv_sub_bytes, inv_mix_columns, inv_cipher_under};
 
-use super::packed::{inverses, pack, times_x, unpack};
+use super::boxes::{self, Substitution};
+use super::packed::{inverses, times_x};
 use super::steps::{add_round_key, mix_columns, of_state, to_state};
 
 pub fn inv_shift_rows(s: [[u8; 4]; 4]) -> [[u8; 4]; 4]
@@ -36,33 +36,28 @@ fn inv_affines(w: u64) -> u64
     w6 ^ w3 ^ w1 ^ 0x0505_0505_0505_0505
 }
 
-// The substitution of each of eight bytes back: the affine step undone, and then the inverse in the field.
-fn inv_subs(w: u64) -> u64
-    ensures { result ≡ each inv_sub_byte w }
-{
-    inverses(inv_affines(w))
+struct InvSubBytes;
+
+// The affine step undone, and then the inverse in the field.
+impl Substitution for InvSubBytes {
+    ghost image = { inv_sub_byte };
+
+    fn eight(w: u64) -> u64 {
+        inverses(inv_affines(w))
+    }
 }
 
 // The substitution of a byte back, section 5.3.2.
 pub fn inv_sub_byte(b: u8) -> u8
     ensures { result ≡ inv_sub_byte b }
 {
-    (inv_subs(b as u64) % 256) as u8
-}
-
-// The substitution of two rows of a state back.
-fn inv_sub_rows(a: [u8; 4], b: [u8; 4]) -> [[u8; 4]; 2]
-    ensures { result ≡ four (λ c. inv_sub_byte (get_or a c 0)) ∷ four (λ c. inv_sub_byte (get_or b c 0)) ∷ [] }
-{
-    unpack(inv_subs(pack(a, b)))
+    boxes::byte::<InvSubBytes>(b)
 }
 
 pub fn inv_sub_bytes(s: [[u8; 4]; 4]) -> [[u8; 4]; 4]
     ensures { result ≡ inv_sub_bytes s }
 {
-    let x = inv_sub_rows(s[0], s[1]);
-    let y = inv_sub_rows(s[2], s[3]);
-    [x[0], x[1], y[0], y[1]]
+    boxes::state::<InvSubBytes>(s)
 }
 
 // MixColumns four times changes nothing, so three times undo it once.
@@ -77,12 +72,8 @@ pub fn decrypt_block(keys: &[[u8; 16]; 11], block: [u8; 16]) -> [u8; 16]
     ensures { result ≡ inv_cipher_under keys.now block }
 {
     let mut s = add_round_key(to_state(block), keys[10]);
-    let mut i: usize = 9;
-    while 0 < i {
-        let added = add_round_key(inv_sub_bytes(inv_shift_rows(s)), keys[i]);
-        let n = inv_mix_columns(added);
-        s = n;
-        i -= 1;
+    for i in (1..10).rev() {
+        s = inv_mix_columns(add_round_key(inv_sub_bytes(inv_shift_rows(s)), keys[i]));
     }
     of_state(add_round_key(inv_sub_bytes(inv_shift_rows(s)), keys[0]))
 }

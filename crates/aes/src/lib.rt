@@ -5,6 +5,7 @@
 #![tactic(auto)]
 
 pub mod block_cipher;
+mod boxes;
 pub mod ctr;
 mod inv_cipher;
 mod packed;
@@ -18,10 +19,11 @@ ghost use Rattle.aes.specs.Cipher.{sub_bytes, sub_word, chained, next_key, key_e
 ghost use Rattle.aes.specs.Ctr.{ctr_of};
 
 use block_cipher::BlockCipher;
+use boxes::Substitution;
 pub use ctr::{blocks_for, counter_block, xor_block};
 pub use inv_cipher::{decrypt_block, inv_mix_columns, inv_shift_rows, inv_sub_byte, inv_sub_bytes};
 pub use packed::xtime;
-use packed::{inverses, pack, times_x, unpack};
+use packed::{inverses, times_x};
 pub use steps::{add_round_key, mix_columns, of_state, shift_rows, to_state};
 use wire::Refusal;
 
@@ -36,33 +38,28 @@ fn affines(w: u64) -> u64
     w ^ w4 ^ w3 ^ w2 ^ w1 ^ 0x6363_6363_6363_6363
 }
 
-// The substitution of each of eight bytes: the inverse in the field, and then the affine step.
-fn subs(w: u64) -> u64
-    ensures { result ≡ each sub_byte w }
-{
-    affines(inverses(w))
+struct SubBytes;
+
+// The inverse in the field, and then the affine step.
+impl Substitution for SubBytes {
+    ghost image = { sub_byte };
+
+    fn eight(w: u64) -> u64 {
+        affines(inverses(w))
+    }
 }
 
 // The substitution of a byte, section 5.1.1.
 pub fn sub_byte(b: u8) -> u8
     ensures { result ≡ sub_byte b }
 {
-    (subs(b as u64) % 256) as u8
-}
-
-// The substitution of two rows of a state.
-fn sub_rows(a: [u8; 4], b: [u8; 4]) -> [[u8; 4]; 2]
-    ensures { result ≡ sub_word a ∷ sub_word b ∷ [] }
-{
-    unpack(subs(pack(a, b)))
+    boxes::byte::<SubBytes>(b)
 }
 
 pub fn sub_bytes(s: [[u8; 4]; 4]) -> [[u8; 4]; 4]
     ensures { result ≡ sub_bytes s }
 {
-    let x = sub_rows(s[0], s[1]);
-    let y = sub_rows(s[2], s[3]);
-    [x[0], x[1], y[0], y[1]]
+    boxes::state::<SubBytes>(s)
 }
 
 // ---- section 5.2: key expansion
@@ -70,7 +67,7 @@ pub fn sub_bytes(s: [[u8; 4]; 4]) -> [[u8; 4]; 4]
 fn sub_word(a: [u8; 4]) -> [u8; 4]
     ensures { result ≡ sub_word a }
 {
-    let x = sub_rows(a, [0; 4]);
+    let x = boxes::two_rows::<SubBytes>(a, [0; 4]);
     x[0]
 }
 

@@ -1,6 +1,6 @@
 // Elements of the field of 256: FIPS 197, section 4.2, and the inverse of section 5.1.1. Eight are packed in a u64, a byte each, the first the lowest.
 ghost use Rattle.std.specs.Prelude.{◌≡◌, ◌∷◌, [], ◌+◌};
-ghost use Rattle.aes.specs.Field.{xtime as xtimeOf, ◌•◌};
+ghost use Rattle.aes.specs.Field.{xtime, ◌•◌};
 ghost use Rattle.aes.specs.Box.{inverse};
 ghost use Rattle.aes.specs.Cipher.{four};
 ghost use Rattle.aes.specs.Packed.{packed, element, each, two_rows, times_x};
@@ -33,14 +33,14 @@ pub fn times_x(w: u64, rest: u8) -> u64
 
 // Each times x in the field.
 pub fn xtimes(w: u64) -> u64
-    ensures { result ≡ each xtimeOf w }
+    ensures { result ≡ each xtime w }
 {
     times_x(w, 0x1b)
 }
 
 // One element times x: the lowest of eight, the others 0.
 pub fn xtime(b: u8) -> u8
-    ensures { result ≡ xtimeOf b }
+    ensures { result ≡ xtime b }
 {
     (xtimes(b as u64) % 256) as u8
 }
@@ -52,12 +52,10 @@ fn products(k: u64, a: u64) -> u64
     let mut sum: u64 = 0;
     let mut digits = k;
     let mut x = a;
-    let mut left: usize = 8;
-    while 0 < left {
-        sum = sum ^ ((digits & 0x0101_0101_0101_0101) * 255 & x);
+    for _ in 0..8usize {
+        sum ^= (digits & 0x0101_0101_0101_0101) * 255 & x;
         digits = (digits & 0xfefe_fefe_fefe_fefe) / 2;
         x = xtimes(x);
-        left -= 1;
     }
     sum
 }
@@ -81,10 +79,8 @@ pub fn inverses(w: u64) -> u64
     ensures { result ≡ each inverse w }
 {
     let mut x: u64 = 0x0101_0101_0101_0101;
-    let mut i: usize = 0;
-    while i < 7 {
+    for _ in 0..7usize {
         x = squares(products(x, w));
-        i += 1;
     }
     x
 }

@@ -1,12 +1,16 @@
 -- Columns of four bytes as words: sums, the state of four, MixColumns by turned products, a round key's words. Assumes nothing.
 use mathlib.Core.Path.{◌≡◌, ◌∙◌, refl, sym, ap}
 use mathlib.Core.List.{List, [], ◌∷◌, ◌++◌}
-use Prim.Native.Nat.{ℕ, ◌+◌, ◌-◌, ◌/◌, ◌%◌, ◌<◌}
+use Prim.Native.Nat.{ℕ, ◌+◌, ◌*◌, ◌^◌, ◌/◌, ◌%◌, ◌<◌}
 use native.Mathlib.Omega.{arith}
-use lib.Bits.{xor_shr, xor_mod, xor_comm}
+use lib.Bits.{xor_shr, xor_mod, xor_comm, and_shifted}
+use Rattle.std.specs.Int.Bits.{bit_or}
+use Rattle.std.specs.Int.{rotate_left}
+use Rattle.std.proofs.Common.{w32}
+use Rattle.std.proofs.lemmas.Nat.{or_disjoint}
 use lib.ListN.{get_or}
 use Rattle.wire.specs.Numbers.{Bytes, num, le}
-use Rattle.wire.proofs.Numbers.{bytes_none, bytes_cons, num_le, le_num}
+use Rattle.wire.proofs.Numbers.{bytes_none, bytes_cons, le_num}
 use Rattle.wire.proofs.Xor.{xor_assoc}
 use Rattle.aes.specs.Field.{◌⊕◌, ◌•◌}
 use Rattle.aes.specs.Cipher.{four, rows, cell, of_state, xor_word, chained, mixed}
@@ -24,17 +28,25 @@ bytes_four {a} {b} {c} {d} ha hb hc hd =
 pub le_four : (f : ℕ → ℕ) → ((i : ℕ) → f i < 256) → le 4 (num 4 0 (four f)) ≡ four f
 le_four f h = le_num (four f) (four_bytes f h) 4 0 (omega arith)
 
--- a word turned down n rows, by its bytes
-pub turned : (n w : ℕ) {v : ℕ} → w < 4294967296
-    → ((a b c d : ℕ) → a < 256 → b < 256 → c < 256 → w ≡ num 4 0 (a ∷ b ∷ c ∷ d ∷ []) → v ≡ num 4 0 (down n (a ∷ b ∷ c ∷ d ∷ [])))
-    → le 4 v ≡ down n (le 4 w)
-turned n w h e =
-    let p : w % 256 < 256 = omega arith in
-    let q : w / 256 % 256 < 256 = omega arith in
-    let r : w / 256 / 256 % 256 < 256 = omega arith in
-    let s : w / 256 / 256 / 256 < 256 = omega arith in
-    ap (le 4) (e (w % 256) (w / 256 % 256) (w / 256 / 256 % 256) (w / 256 / 256 / 256) p q r (sym (num_le 4 w [] [] 0 refl h)))
-    ∙ le_four (λ j. get_or (le 4 w) ((j + 4 - n) % 4) 0) (λ j. bytes_four p q r s ((j + 4 - n) % 4))
+-- a word rotated by 8, 16 and 24 digits: its bytes turned down
+or_sum : (a k b : ℕ) {x : ℕ} → x ≡ a * 2 ^ k → b < 2 ^ k → bit_or x b ≡ a * 2 ^ k + b
+or_sum a k b e h = rw e (or_disjoint (a * 2 ^ k) b (and_shifted a k b h))
+
+module _ (w : ℕ) {v : ℕ} (h : w < 4294967296) where
+  pub rotated_8 : v ≡ rotate_left w32 w 8 → le 4 v ≡ down 1 (le 4 w)
+  rotated_8 e =
+      let s = e ∙ or_sum (w % 16777216) 8 (w / 16777216) (omega arith) (omega arith) in
+      by_four (omega (arith, s)) (omega (arith, s)) (omega (arith, s)) (omega (arith, s))
+
+  pub rotated_16 : v ≡ rotate_left w32 w 16 → le 4 v ≡ down 2 (le 4 w)
+  rotated_16 e =
+      let s = e ∙ or_sum (w % 65536) 16 (w / 65536) (omega arith) (omega arith) in
+      by_four (omega (arith, s)) (omega (arith, s)) (omega (arith, s)) (omega (arith, s))
+
+  pub rotated_24 : v ≡ rotate_left w32 w 24 → le 4 v ≡ down 3 (le 4 w)
+  rotated_24 e =
+      let s = e ∙ or_sum (w % 256) 24 (w / 256) (omega arith) (omega arith) in
+      by_four (omega (arith, s)) (omega (arith, s)) (omega (arith, s)) (omega (arith, s))
 
 -- a byte
 pub le_byte : (c : ℕ) → c < 256 → le 4 c ≡ c ∷ 0 ∷ 0 ∷ 0 ∷ []

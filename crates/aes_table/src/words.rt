@@ -3,31 +3,10 @@ ghost use Rattle.std.specs.Prelude.{◌≡◌, ◌∷◌, [], get_or};
 ghost use Rattle.wire.specs.Numbers.{le};
 ghost use Rattle.aes.specs.Box.{sub_byte};
 ghost use Rattle.aes.specs.Cipher.{four, to_state, of_state, sub_bytes, shift_rows, mix_columns, add_round_key};
-ghost use Rattle.aes_table.specs.Words.{down, state_of, mixed_column};
+ghost use Rattle.aes_table.specs.Words.{state_of, mixed_column};
 
 use crate::Fast;
 use wire::{read_u32, u32_bytes};
-
-// A column turned down one row: rotated by 8.
-fn rotate_8(w: u32) -> u32
-    ensures { le 4 result ≡ down 1 (le 4 w) }
-{
-    w % 16777216 * 256 + w / 16777216
-}
-
-// Down two rows: rotated by 16.
-fn rotate_16(w: u32) -> u32
-    ensures { le 4 result ≡ down 2 (le 4 w) }
-{
-    w % 65536 * 65536 + w / 65536
-}
-
-// Down three rows: rotated by 24.
-fn rotate_24(w: u32) -> u32
-    ensures { le 4 result ≡ down 3 (le 4 w) }
-{
-    w % 256 * 16777216 + w / 256
-}
 
 // The column of four bytes.
 fn word(b: [u8; 4]) -> u32
@@ -75,9 +54,9 @@ impl Fast {
         ensures { le 4 result ≡ mixed_column (sub_byte a) (sub_byte b) (sub_byte c) (sub_byte d) }
     {
         self.entry(a)
-            ^ rotate_8(self.entry(b))
-            ^ rotate_16(self.entry(c))
-            ^ rotate_24(self.entry(d))
+            ^ self.entry(b).rotate_left(8)
+            ^ self.entry(c).rotate_left(16)
+            ^ self.entry(d).rotate_left(24)
     }
 
     // The column of four bytes, each substituted.

@@ -1,5 +1,5 @@
 // Blocks deciphered into a work buffer and judged. Each judge gives the refusal of the first rule that is broken.
-ghost use Rattle.std.specs.Prelude.{◌≡◌, ◌∷◌, [], ◌≤◌, take, drop};
+ghost use Rattle.std.specs.Prelude.{◌≡◌, ◌↔◌, ◌∷◌, [], ◌≤◌, take, drop, IsTrue, All};
 ghost use Rattle.wire.specs.Refusals.{checked_by};
 ghost use Rattle.wire.specs.Same.{same_bytes};
 ghost use Rattle.wire.specs.Writing.{Stores, no_room};
@@ -178,14 +178,13 @@ fn not_least(text: &[u8], size: usize) -> bool
 fn all_zero(text: &[u8], from: usize) -> bool
     ensures { result ≡ all_zero (drop from text.now) }
 {
-    let mut i = from;
-    while i < text.len() {
-        if text[i] != 0 {
-            return false;
-        }
-        i += 1;
-    }
-    true
+    zeros(&text[from.min(text.len())..])
+}
+
+fn zeros(bytes: &[u8]) -> bool
+    ensures { IsTrue result ↔ All (λ b. b ≡ 0) bytes.now }
+{
+    bytes.iter().all(|b| *b == 0)
 }
 
 // The message in the blocks of an encrypted UART message, empty where 12 applies.

@@ -24,23 +24,23 @@ once x w e q = applied (λ a. a • a) (record { number = e; bytes = byte }) (λ
     byte : Bytewise (λ j. element x j • element w j)
     byte j = mul_byte (element x j) (element w j) (element_byte w j)
 
-pub loop-i-init : goal.loop-i-init
+pub loop-init : goal.loop-init
 unfolding packed square_multiply
-loop-i-init c = (search rules, lit< tt, λ j h. element_at (repeated 1 (lit< tt)) j h)
+loop-init c = (search rules, lit< tt, λ j h. element_at (repeated 1 (lit< tt)) j h)
 
-pub loop-i-preserved : goal.loop-i-preserved
-loop-i-preserved c =
-    let l = c.loop-i in
+pub loop-preserved : goal.loop-preserved
+loop-preserved c =
+    let l = c.loop in
     let w = c.args.w in
     let y = once l.x w c.products.ensures c.squares-x.ensures in (
       search rules,
       elements_lt y,
-      λ j h. element_at y j h ∙ ap (λ (a : ℕ). (a • element w j) • (a • element w j)) (l.invariant.2 j h) ∙ sym (more l.i (element w j)),
+      λ j h. element_at y j h ∙ ap (λ (a : ℕ). (a • element w j) • (a • element w j)) (l.invariant.2 j h) ∙ sym (more l.counter (element w j)),
     )
 
 pub returns : goal.returns
 returns c =
-    let l = c.loop-i in
+    let l = c.loop in
     let w = c.args.w in
     by_element (λ j. inverse (element w j)) (elements l.x l.invariant.1) (λ j h.
-    l.invariant.2 j h ∙ ap (λ (n : ℕ). square_multiply n (element w j)) (le_antisymm l.invariant.0 c.loop-i-test.false) ∙ square_multiply_is (element w j) (element_byte w j))
+    l.invariant.2 j h ∙ ap (λ (n : ℕ). square_multiply n (element w j)) (le_antisymm l.invariant.0 c.loop-test.false) ∙ square_multiply_is (element w j) (element_byte w j))

@@ -1,6 +1,6 @@
 -- `aes::packed::products` meets its contract. Invariant: at each element, what is summed up, and the product by the digits that are left, are the product.
 use mathlib.Core.Path.{◌≡◌, ◌∙◌, refl, sym, ap}
-use Prim.Native.Nat.{ℕ, zero, suc, ◌-◌, ◌*◌, ◌/◌, ◌%◌, ◌<◌}
+use Prim.Native.Nat.{ℕ, zero, suc, ◌+◌, ◌-◌, ◌*◌, ◌/◌, ◌%◌, ◌<◌}
 use native.Mathlib.Omega.{arith}
 use lib.Bits.{bit_and, xor_zero_r}
 use lib.Dec.{lit<}
@@ -30,33 +30,36 @@ behind : (d : ℕ) → U64 d → Elements (bit_and d 0xfefefefefefefefe / 2) (λ
 unfolding packed
 behind d h = record { number = from_digit d 7 1 h (lit< tt); bytes = λ i. rest-byte (element d i) }
 
-pub loop-left-init : goal.loop-left-init
+pub loop-init : goal.loop-init
 unfolding ◌•◌
-loop-left-init c =
-    (lit< tt, search rules, search rules, λ i h. ap (λ (s : ℕ). s ⊕ times 8 (element c.args.k i) (element c.args.a i)) (none i))
+loop-init c =
+    (search rules, lit< tt, search rules, search rules, λ i h. ap (λ (s : ℕ). s ⊕ times 8 (element c.args.k i) (element c.args.a i)) (none i))
 
-pub loop-left-preserved : goal.loop-left-preserved
-loop-left-preserved c =
-    let l = c.loop-left in
-    let s = added l.sum l.digits l.x l.invariant.0 l.invariant.1 l.invariant.2 in
-    let d = behind l.digits l.invariant.1 in
-    let x = applied xtime (elements l.x l.invariant.2) (λ i. xtime_byte (element l.x i)) c.xtimes-x.ensures in (
+pub loop-preserved : goal.loop-preserved
+loop-preserved c =
+    let l = c.loop in
+    let n = 8 - l.counter in
+    let s = added l.sum l.digits l.x l.invariant.1 l.invariant.2 l.invariant.3 in
+    let d = behind l.digits l.invariant.2 in
+    let x = applied xtime (elements l.x l.invariant.3) (λ i. xtime_byte (element l.x i)) c.xtimes-x.ensures in
+    let left : 8 - (l.counter + 1) ≡ n - 1 = omega arith in (
+      search rules,
       elements_lt s,
       elements_lt d,
       elements_lt x,
       λ i h.
-          (λ t. element_at s i h t ⊕ times (l.left - 1) (element_at d i h t) (element_at x i h t))
-          ∙ times_step l.left (element l.sum i) (element l.digits i) (element l.x i) c.loop-left-test.true
+          (λ t. element_at s i h t ⊕ times (left t) (element_at d i h t) (element_at x i h t))
+          ∙ times_step n (element l.sum i) (element l.digits i) (element l.x i) (omega arith)
           (element_byte l.digits i) (element_byte l.x i)
-          ∙ l.invariant.3 i h,
+          ∙ l.invariant.4 i h,
     )
 
 pub returns : goal.returns
 unfolding times
 returns c =
-    let l = c.loop-left in
+    let l = c.loop in
     let a = c.args in
-    by_element (λ i. element a.k i • element a.a i) (elements l.sum l.invariant.0) (λ i h.
+    by_element (λ i. element a.k i • element a.a i) (elements l.sum l.invariant.1) (λ i h.
     sym (xor_zero_r (element l.sum i))
-    ∙ ap (λ (n : ℕ). element l.sum i ⊕ times n (element l.digits i) (element l.x i)) (none_left l.left c.loop-left-test.false)
-    ∙ l.invariant.3 i h)
+    ∙ ap (λ (n : ℕ). element l.sum i ⊕ times n (element l.digits i) (element l.x i)) (none_left (8 - l.counter) (omega arith))
+    ∙ l.invariant.4 i h)

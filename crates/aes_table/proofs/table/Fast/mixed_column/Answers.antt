@@ -2,12 +2,13 @@
 use mathlib.Core.Path.{◌≡◌, ◌∙◌, ap}
 use mathlib.Core.List.{List}
 use Prim.Native.Nat.{ℕ}
+use Rattle.std.proofs.Common.{rules}
 use Rattle.wire.specs.Numbers.{le}
 use Rattle.aes.specs.Field.{◌⊕◌}
 use Rattle.aes.specs.Box.{sub_byte}
 use Rattle.aes.specs.Cipher.{xor_word}
 use Rattle.aes_table.specs.Words.{down}
-use Rattle.aes_table.proofs.Columns.{le_xor, mixed_sum}
+use Rattle.aes_table.proofs.Columns.{le_xor, rotated_8, rotated_16, rotated_24, mixed_sum}
 use Rattle.aes_table.proofs.table.Fast.mixed_column.Goals as goal
 
 sum_of : {p q r s : List ℕ} (x y z w : ℕ) → le 4 x ≡ p → le 4 y ≡ q → le 4 z ≡ r → le 4 w ≡ s
@@ -19,13 +20,10 @@ sum_of x y z w ep eq er es =
 
 pub returns : goal.returns
 returns c =
-    let g = c in
-    let f = g in
-    let e = f in
-    let a = e.args in
-    sum_of e.entry.result f.rotate_8.result g.rotate_16.result c.rotate_24.result
-    e.entry.ensures
-    (f.rotate_8.ensures ∙ ap (down 1) f.entry-2.ensures)
-    (g.rotate_16.ensures ∙ ap (down 2) g.entry-3.ensures)
-    (c.rotate_24.ensures ∙ ap (down 3) c.entry-4.ensures)
+    let a = c.args in
+    sum_of c.entry.result c.rotate_left.result c.rotate_left-2.result c.rotate_left-3.result
+    c.entry.ensures
+    (rotated_8 c.entry-2.result (search rules) c.rotate_left.ensures ∙ ap (down 1) c.entry-2.ensures)
+    (rotated_16 c.entry-3.result (search rules) c.rotate_left-2.ensures ∙ ap (down 2) c.entry-3.ensures)
+    (rotated_24 c.entry-4.result (search rules) c.rotate_left-3.ensures ∙ ap (down 3) c.entry-4.ensures)
     ∙ mixed_sum (sub_byte a.a) (sub_byte a.b) (sub_byte a.c) (sub_byte a.d)
