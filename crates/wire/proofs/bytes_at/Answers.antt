@@ -1,5 +1,5 @@
 -- `bytes_at` meets its contract. Assumes nothing.
-use Rattle.std.proofs.Common.{arith, refl, ap, Bor, List, ℕ, ◌∙◌, length, get_or}
+use Rattle.std.proofs.Common.{arith, refl, ap, Bor, List, ℕ, ◌∙◌, get_or}
 use lib.ListN.{length-set}
 use Rattle.std.proofs.lemmas.List.{get_or-drop}
 use Rattle.wire.proofs.Lists.{rest_or, kept_more}

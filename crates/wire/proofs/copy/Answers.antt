@@ -1,5 +1,4 @@
 -- `copy` meets its contract: what is put at a place is a run of stores. Assumes nothing.
-use Rattle.std.proofs.Common.{arith, ◌-◌, ◌+◌, ◌≡◌, length, drop}
 use Rattle.wire.proofs.Lists.{put_sets}
 use Rattle.wire.proofs.copy.Goals as goal
 
