@@ -12,10 +12,8 @@ pub fn put(out: &mut [u8], at: usize, s: &[u8]) -> usize
     ensures { Puts s.now at out.old result out.new }
 {
     let mut behind = at;
-    let mut i: usize = 0;
-    while i < s.len() {
-        behind = put_byte(out, behind, s[i]);
-        i += 1;
+    for b in s {
+        behind = put_byte(out, behind, *b);
     }
     behind
 }
@@ -36,10 +34,7 @@ fn digit(d: u8) -> u8
     requires { d < 16 }
     ensures { result ≡ digits.digit d }
 {
-    if d < 10 {
-        return 48 + d;
-    }
-    87 + d
+    if d < 10 { b'0' + d } else { b'a' + (d - 10) }
 }
 
 // A number in decimal.
@@ -72,11 +67,9 @@ pub fn decimals(out: &mut [u8], at: usize, ns: &[u64]) -> usize
     ensures { Puts (digits.decimals ns.now) at out.old result out.new }
 {
     let mut behind = at;
-    let mut i: usize = 0;
-    while i < ns.len() {
+    for n in ns {
         behind = put_byte(out, behind, b' ');
-        behind = decimal(out, behind, ns[i]);
-        i += 1;
+        behind = decimal(out, behind, *n);
     }
     behind
 }
@@ -94,12 +87,9 @@ pub fn hex(out: &mut [u8], at: usize, s: &[u8]) -> usize
     ensures { Puts (digits.hex s.now) at out.old result out.new }
 {
     let mut behind = at;
-    let mut i: usize = 0;
-    while i < s.len() {
-        let b = s[i];
-        behind = put_byte(out, behind, digit(b / 16));
-        behind = put_byte(out, behind, digit(b % 16));
-        i += 1;
+    for b in s {
+        behind = put_byte(out, behind, digit(*b / 16));
+        behind = put_byte(out, behind, digit(*b % 16));
     }
     behind
 }

@@ -1,11 +1,8 @@
 -- `bytes` meets its contract. Assumes nothing.
-use Prim.Native.Nat.{◌+◌, ◌-◌, ◌≤◌}
+use Prim.Native.Nat.{◌+◌, ◌-◌}
 use Rattle.text.specs.Reading.{listed, fields_from}
 use Rattle.text.proofs.Puts.{Leaves}
 use Rattle.text.proofs.reading.bytes.Given as goal
 
 abbrev pub invariant-loop-k : goal.invariant-loop-k
-invariant-loop-k l = (l.k ≤ l.last + 1) × Leaves (listed l.s) l.at l.initial.out (fields_from l.k (l.last + 1 - l.k) l.s) l.behind l.out
-
-abbrev pub decreases-loop-k : goal.decreases-loop-k
-decreases-loop-k l = l.last + 1 - l.k
+invariant-loop-k l = Leaves (listed l.s) l.at l.initial.out (fields_from l.k (l.last + 1 - l.k) l.s) l.behind l.out
