@@ -62,16 +62,15 @@ fn whole_minutes(t: Seconds) -> Minutes
 }
 
 // The memory after an accepted session nonce: kept where it equals the one held, else empty.
+#[tactic(auto, unfolding(crate::specs::Session::memory_after))]
 fn memory_after(there: bool, old: [u8; 5], memory: NonceMemory, nonce: [u8; 5]) -> NonceMemory
     ensures { result ≡ memory_after there old memory nonce }
 {
-    if there {
-        if wire::same_bytes(&old, &nonce) {
-            return memory;
-        }
-        return NonceMemory::empty();
+    if there && old == nonce {
+        memory
+    } else {
+        NonceMemory::empty()
     }
-    NonceMemory::empty()
 }
 
 impl Session {
@@ -88,14 +87,11 @@ impl Session {
     }
 
     // Whether there is one, run out or not. One whose memory's count lies outside its limits is none.
+    #[tactic(auto, unfolding(crate::specs::Session::session_there))]
     pub fn is_there(self) -> bool
         ensures { result ≡ session_there self }
     {
-        if self.held {
-            let memory = self.memory;
-            return memory.fits();
-        }
-        false
+        self.held && self.memory.fits()
     }
 
     // The session after a session nonce message is accepted.
@@ -155,14 +151,11 @@ impl Connection {
     }
 
     // Whether there is one. One whose memory's count lies outside its limits is none.
+    #[tactic(auto, unfolding(crate::specs::Session::connection_there))]
     pub fn is_there(self) -> bool
         ensures { result ≡ connection_there self }
     {
-        if self.held {
-            let memory = self.memory;
-            return memory.fits();
-        }
-        false
+        self.held && self.memory.fits()
     }
 
     // The connection session after session data is accepted.
@@ -218,18 +211,9 @@ impl Keys {
         ensures { result ≡ key_for self Mode.Normal level }
     {
         match level {
-            Level::Admin => {
-                let key = self.admin;
-                key
-            }
-            Level::Member => {
-                let key = self.member;
-                key
-            }
-            Level::Basic => {
-                let key = self.basic;
-                key
-            }
+            Level::Admin => self.admin,
+            Level::Member => self.member,
+            Level::Basic => self.basic,
             Level::Setup => Key::none(),
         }
     }
@@ -241,10 +225,7 @@ impl Keys {
             Level::Admin => Key::none(),
             Level::Member => Key::none(),
             Level::Basic => Key::none(),
-            Level::Setup => {
-                let key = self.setup;
-                key
-            }
+            Level::Setup => self.setup,
         }
     }
 
