@@ -11,6 +11,11 @@ use mathlib.Core.Bool.{Bool, true, false, cond, ◌&&◌}
 use Rattle.std.proofs.lemmas.List.Sums.{sum_by-cons}
 use Rattle.std.specs.Prelude.{count_by, slice_get}
 use Rattle.std.specs.List.{slice_split, onto_first}
+use Rattle.std.specs.Iterator.{Yields}
+use Rattle.std.proofs.lemmas.List.{get_or_default}
+use Rattle.std.proofs.lemmas.List.Splits.{length-slice_split}
+use Rattle.std.proofs.lemmas.Iterator.{YieldsList}
+use Rattle.std.proofs.lemmas.Iterator.Consumers.{YieldsList-turn, YieldsList-end}
 use Rattle.std.proofs.Common.{Option, Some, None, unwrap_or, option_map, Bor}
 use borrow.Author.Tests.{eq-eqb, ne_eqb}
 use Rattle.wire.specs.Choice.{pick}
@@ -128,3 +133,18 @@ fields_at k j n m s e f = rw (e, f)
 pub fields_past : (k n : ℕ) (s : List ℕ) → n ≡ 0 → fields_from k n s ≡ []
 unfolding fields_from
 fields_past k n s e = rw e
+
+-- ---- the pieces of a split, in a loop
+pub split_length : (sep : ℕ) (s : List ℕ) → length (slice_split (λ (b : ℕ). eqb b sep) s) ≡ suc (count sep s)
+split_length sep s = omega (arith, length-slice_split (λ (b : ℕ). eqb b sep) s, count_is sep s)
+
+module _ {S : Type 0} {steps : S → Option (Bor (List ℕ)) → S → Type 0} {s : S} (xs : List (Bor (List ℕ))) (t : S) (y : Yields steps s xs t) (sep : ℕ) (l : List ℕ) where
+  pub piece_turn : (r : Option (Bor (List ℕ))) (u : S) (x : Bor (List ℕ)) → r ≡ Some x → steps t r u
+      → YieldsList steps (λ x. x.now) s (slice_split (λ (b : ℕ). eqb b sep) l) → (x.now ≡ field sep (length xs) l) × (length xs < suc (count sep l))
+  piece_turn r u x e k road =
+      let h = YieldsList-turn road xs t y r u x e k in
+      (h.1 ∙ get_or_default _ (length xs) x.now [] h.0 ∙ split_field sep (length xs) l, omega (arith, h.0, split_length sep l))
+
+  pub piece_end : (r : Option (Bor (List ℕ))) (u : S) → r ≡ None → steps t r u
+      → YieldsList steps (λ x. x.now) s (slice_split (λ (b : ℕ). eqb b sep) l) → length xs ≡ suc (count sep l)
+  piece_end r u e k road = (YieldsList-end road xs t y r u e k).1 ∙ split_length sep l

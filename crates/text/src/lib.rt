@@ -3,7 +3,7 @@
 
 pub mod reading;
 
-ghost use Rattle.std.specs.Prelude.{◌≡◌, ◌++◌, ◌∷◌, [], ◌<◌, ◌≤◌, length, drop};
+ghost use Rattle.std.specs.Prelude.{◌≡◌, ◌++◌, ◌∷◌, [], ◌<◌, length};
 ghost use Rattle.text.specs.Puts.{Puts};
 ghost use Rattle.text.specs.Digits as digits;
 
@@ -44,6 +44,7 @@ pub fn decimal(out: &mut [u8], at: usize, n: u64) -> usize
     let mut room = [0u8; 20];
     let mut i: usize = 20;
     let mut rest = n;
+    // The loop goes down the number: how many digits it has is known at its end.
     while 9 < rest {
         i -= 1;
         room[i] = digit((rest % 10) as u8);
@@ -51,15 +52,7 @@ pub fn decimal(out: &mut [u8], at: usize, n: u64) -> usize
     }
     let first = i - 1;
     room[first] = digit(rest as u8);
-    put(out, at, from(&room, first))
-}
-
-// The bytes from a place on.
-fn from(s: &[u8], at: usize) -> &[u8]
-    requires { at ≤ length s.now }
-    ensures { result.now ≡ drop at s.now }
-{
-    &s[at..]
+    put(out, at, &room[first..])
 }
 
 // Numbers in decimal, each behind a space.

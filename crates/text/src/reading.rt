@@ -94,10 +94,9 @@ fn repeated(out: &mut [u8], at: usize, s: &[u8]) -> usize
 pub fn bytes(out: &mut [u8], at: usize, s: &[u8]) -> usize
     ensures { Puts (specs.listed s.now) at out.old result out.new }
 {
-    let last = count(s, b'+');
     let mut behind = at;
-    for k in 0..=last {
-        behind = repeated(out, behind, field(s, b'+', k));
+    for piece in s.split(|b| *b == b'+') {
+        behind = repeated(out, behind, piece);
     }
     behind
 }
