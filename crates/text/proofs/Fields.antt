@@ -19,7 +19,6 @@ use Rattle.std.proofs.lemmas.Iterator.Consumers.{YieldsList-turn, YieldsList-end
 use Rattle.std.proofs.Common.{Option, Some, None, unwrap_or, option_map, Bor}
 use borrow.Author.Tests.{eq-eqb, ne_eqb}
 use Rattle.wire.specs.Choice.{pick}
-use Rattle.wire.proofs.Choice.{pick_all}
 use Rattle.text.specs.Reading.{before, behind, field, count, number, number_from, with_digit, value, pairs, times, repeated, fields_from}
 
 -- ---- a field
@@ -71,14 +70,6 @@ count_is sep [] = refl
 count_is sep (b ∷ s) =
     sum_by-cons (λ (x : ℕ). cond (eqb x sep) 1 0) b s
     ∙ rw (count_is sep s) (elim (eqb b sep) as (λ (t : Bool). cond t 1 0 + count sep s ≡ pick t 1 0 + count sep s) [ true ↦ refl | false ↦ refl ])
-
-pub count_most : (sep : ℕ) (s : List ℕ) → count sep s ≤ length s
-unfolding count
-count_most sep [] = omega arith
-count_most sep (b ∷ s) =
-    pick_all (λ (n : ℕ). n + count sep s ≤ suc (length s)) (eqb b sep)
-    (λ e. omega (arith, count_most sep s))
-    (λ e. omega (arith, count_most sep s))
 
 -- ---- a number
 pub number_more : (s : List ℕ) (i n : ℕ) {m t : ℕ} → i < length s → (leb 48 (get_or s i 0) && leb (get_or s i 0) 57) ≡ true → m ≡ with_digit n (get_or s i 0)
