@@ -3,11 +3,12 @@ use mathlib.Core.Path.{◌≡◌, refl, sym, ap, ◌∙◌}
 use mathlib.Core.List.{List, [], ◌∷◌, ◌++◌, append_assoc}
 use Prim.Native.Nat.{ℕ, suc, ◌+◌, ◌-◌, ◌≤◌, ◌<◌}
 use native.Mathlib.Nat.{add-zero}
+use native.Mathlib.Numerals.{add-one}
 use native.Mathlib.Omega.{arith}
 use Rattle.std.proofs.lemmas.List.{get_or-set_same, get_or-set_other}
 use Rattle.std.proofs.Common.{below_more}
 use lib.ListN.{length, get_or, take, drop, set, length-append, length-drop, drop_of_length-le}
-use lib.Seq.{sets, sets-eq, take_all}
+use lib.Seq.{sets, sets-eq, take_all, take-suc, length-take-le}
 use Rattle.std.proofs.Common.{Option, Some, None, Bor, inl, inr, unwrap_or}
 use Rattle.std.specs.Slice.{IsGetRangeResult}
 use Rattle.std.specs.List.{slice_range}
@@ -57,6 +58,12 @@ part_or s start len r d e h = go (ltb (length s) (start + len)) refl r h
 pub sets_then : (vs ws l : List ℕ) (i j : ℕ) → j ≡ i + length vs → sets (sets l i vs) j ws ≡ sets l i (vs ++ ws)
 sets_then [] ws l i j e = rw (e, add-zero i)
 sets_then (a ∷ vs) ws l i j e = sets_then vs ws (set l i a) (suc i) j (omega arith)
+
+-- a turn of a loop that copies
+pub copy_more : (s l : List ℕ) (i k : ℕ) → k < length s → set (sets l i (take k s)) (i + k) (get_or s k 0) ≡ sets l i (take (k + 1) s)
+copy_more s l i k h =
+    sets_then (take k s) (get_or s k 0 ∷ []) l i (i + k) (omega (arith, length-take-le k s (omega arith)))
+    ∙ rw (add-one k, take-suc s k 0 h)
 
 -- three runs, each where the last ends
 pub sets_three : (a b c l : List ℕ) (i j : ℕ) → i ≡ length a → j ≡ length a + length b → sets (sets (sets l 0 a) i b) j c ≡ sets l 0 (a ++ (b ++ c))
