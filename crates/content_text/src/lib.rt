@@ -72,11 +72,11 @@ fn put_offset(out: &mut [u8], at: usize, o: Offset) -> usize
 fn put_rssi(out: &mut [u8], at: usize, v: i8) -> usize
     ensures { Puts (rssi_text v) at out.old result out.new }
 {
-    let b = wire::unsigned_of(v);
-    if b < 128 {
-        return text::named(out, at, b" offset ", b as u64);
+    let size = u64::from(v.unsigned_abs());
+    if v < 0 {
+        return text::named(out, at, b" offset -", size);
     }
-    text::named(out, at, b" offset -", 256 - (b as u64))
+    text::named(out, at, b" offset ", size)
 }
 
 // A command: its number, the numbers in its fields, its offset, its parts.

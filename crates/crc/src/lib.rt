@@ -12,7 +12,7 @@ fn entry(top: u16, b: u8) -> usize
     requires { top < 256 }
     ensures { (result ≡ bit_xor top b) × (result < 256) }
 {
-    (top ^ (b as u16)) as usize
+    usize::from(top ^ u16::from(b))
 }
 
 // The CRC after one more byte.
@@ -34,21 +34,20 @@ fn after_two(once: &[u16; 256], twice: &[u16; 256], c: u16, a: u8, b: u8) -> u16
     twice[i] ^ once[j]
 }
 
+// The CRC after the bytes of a slice.
 fn over(once: &[u16; 256], twice: &[u16; 256], from: u16, s: &[u8]) -> u16
     requires { Shifted 8 once.now × Shifted 16 twice.now }
     ensures { result ≡ crc_from from s.now }
 {
     let mut c = from;
-    let mut i = 0;
-    while 1 < s.len() - i {
-        let j = i + 1;
-        c = after_two(once, twice, c, s[i], s[j]);
-        i += 2;
+    let mut rest = s;
+    while let [a, b, more @ ..] = rest {
+        c = after_two(once, twice, c, *a, *b);
+        rest = more;
     }
-    if i < s.len() {
-        after_one(once, c, s[i])
-    } else {
-        c
+    match rest {
+        [a] => after_one(once, c, *a),
+        _ => c,
     }
 }
 

@@ -12,13 +12,11 @@ ghost use Rattle.frame.specs.Writer.{bad_frame, header_of, sent};
 use wire::Refusal;
 
 // The start byte or the escape byte.
+#[tactic(auto, unfolding(crate::specs::Image::is_mark))]
 fn is_mark(b: u8) -> bool
     ensures { result ≡ is_mark b }
 {
-    if b == 0x7E {
-        return true;
-    }
-    b == 0x5C
+    b == 0x7E || b == 0x5C
 }
 
 // How many bytes a byte is on the line.
@@ -47,11 +45,9 @@ fn put_byte(out: &mut [u8], at: usize, b: u8) -> usize
 fn escaped_len(s: &[u8]) -> usize
     ensures { (result ≡ length (escape s.now)) × (result ≤ 2 * length s.now) }
 {
-    let mut n: usize = 0;
-    let mut i = 0;
-    while i < s.len() {
-        n += escaped_width(s[i]);
-        i += 1;
+    let mut n = 0;
+    for b in s {
+        n += escaped_width(*b);
     }
     n
 }
@@ -62,10 +58,8 @@ fn put(out: &mut [u8], from: usize, s: &[u8]) -> usize
     ensures { (result ≡ from + length (escape s.now)) × (out.new ≡ sets out.old from (escape s.now)) }
 {
     let mut at = from;
-    let mut i = 0;
-    while i < s.len() {
-        at = put_byte(out, at, s[i]);
-        i += 1;
+    for b in s {
+        at = put_byte(out, at, *b);
     }
     at
 }
@@ -125,16 +119,14 @@ fn trailer(wrapper: u8, payload: &[u8]) -> [u8; 2]
 }
 
 // 17: a wrapper type or a payload length that no frame has.
+#[tactic(auto, unfolding(crate::specs::Writer::bad_frame))]
 fn bad_frame(wrapper: u8, len: usize) -> bool
     ensures { result ≡ bad_frame wrapper len }
 {
-    if wrapper == 0 {
-        return 507 < len;
+    match wrapper {
+        0 | 128 => 507 < len,
+        _ => true,
     }
-    if wrapper == 128 {
-        return 507 < len;
-    }
-    true
 }
 
 // The frame at the front of `out`: 17 for a wrapper type or a size that no frame has, then 25 where there is no room.

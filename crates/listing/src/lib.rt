@@ -101,15 +101,14 @@ pub fn list_some(
     let mut progress = start;
     let mut used = from;
     let mut at: usize = 0;
+    // `advance` says how far each turn goes.
     while used < s.len() {
         if out.len() - at < 50 {
             return Listed { progress, used, at };
         }
         let a = line::advance(progress, store, s, used);
-        let e = a.event;
-        at = event_line(out, at, e);
-        let after = a.progress;
-        progress = after;
+        at = event_line(out, at, a.event);
+        progress = a.progress;
         used = a.used;
     }
     Listed { progress, used, at }
@@ -130,11 +129,11 @@ fn list_read<R: Print>(rt: &R, r: Receiver, s: &[u8]) -> io::Result<Receiver>
     let mut store = r.store;
     let mut out = [0u8; 4096];
     let mut used = 0;
+    // `list_some` says how far each turn goes.
     while used < s.len() {
         let l = list_some(progress, &mut store, s, used, &mut out);
         write_out(rt, &out, l.at)?;
-        let after = l.progress;
-        progress = after;
+        progress = l.progress;
         used = l.used;
     }
     Ok(Receiver { progress, store })
@@ -155,20 +154,16 @@ fn read_some<I: Read, R: Print>(input: &mut I, rt: &R, r: Receiver) -> io::Resul
     Ok(Turn { receiver, got })
 }
 
-// Standard input is listed to its end. A proved loop has to end, and nothing shows that the input does: the turns are counted down, from a
-// number that no run uses up.
+// Standard input is listed to its end. A proved loop has to end, and nothing shows that the input does: it has as many turns as no run uses up.
 pub fn list_all<R: Input + Print>(rt: &R) -> io::Result<()> {
     let mut input = rt.reader();
     let mut now = line::fresh();
-    let mut turns = u64::MAX;
-    while turns > 0 {
+    for _ in 0..u64::MAX {
         let t = read_some(&mut input, rt, now)?;
         if t.got == 0 {
             return rt.write_all(b"end\n");
         }
-        let after = t.receiver;
-        now = after;
-        turns -= 1;
+        now = t.receiver;
     }
     Ok(())
 }

@@ -22,10 +22,7 @@ fn parts_before(len: usize, size: usize) -> usize
     requires { 0 < size }
     ensures { (result ≡ pieces_before size len) × (result * size ≤ len) }
 {
-    if len == 0 {
-        return 0;
-    }
-    (len - 1) / size
+    len.saturating_sub(1) / size
 }
 
 // `full` parts of `size` bytes, and the rest as the last. Part `k` stands at `from + k`: behind `k` counters and the bytes before its own.
@@ -33,13 +30,11 @@ fn put_parts(message: &[u8], size: usize, full: usize, out: &mut [u8])
     requires { (full ≤ 255) × (full * size ≤ length message.now) × (length message.now + suc full ≤ length out.old) }
     ensures { out.new ≡ sets out.old 0 (flatten (parts (cut_after full size message.now))) }
 {
-    let mut from: usize = 0;
-    let mut k: usize = 0;
-    while k < full {
+    let mut from = 0;
+    for k in 0..full {
         let end = from + size;
         put_part(k as u8, &message[from..end], from + k, out);
         from = end;
-        k += 1;
     }
     put_part(255, &message[from..], from + full, out);
 }

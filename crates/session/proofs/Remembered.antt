@@ -3,12 +3,13 @@ use mathlib.Core.Path.{◌≡◌, refl, sym, ap, ◌∙◌}
 use mathlib.Core.Bool.{Bool, true, false, ◌||◌}
 use mathlib.Core.List.{List, [], ◌∷◌}
 use Prim.Native.Nat.{ℕ, zero, suc, ◌+◌, ◌≤◌, ◌<◌, min}
-use native.Mathlib.Numerals.{add-one, unary_clauses}
+use native.Mathlib.Numerals.{unary_clauses}
 use native.Mathlib.Omega.{arith}
-use lib.ListN.{length, get_or, take, drop, drop_of_length-le, length-take}
-use lib.Seq.{drop-cons, take-suc, get_or-take}
+use lib.ListN.{length, get_or, take}
+use lib.Seq.{take-suc}
 use lib.Dec.{eqb}
-use borrow.Author.Tests.{leb-true, le-leb, eq-eqb}
+use borrow.Author.Tests.{leb-true, le-leb, eq-eqb, eqb-true, ne_eqb}
+use Rattle.std.specs.List.{list_any}
 use Rattle.wire.specs.Choice.{pick}
 use Rattle.wire.specs.Rules.{among}
 use Rattle.wire.proofs.Choice.{true_false, or_right}
@@ -24,18 +25,21 @@ limit_count m = go (count_fits m) refl
     go true e = leb-true _ _ e
     go false e = omega arith
 
--- ---- the test for a packet nonce among the first of some, from a place on: one of them, and the end
-module _ (n count : ℕ) (ns : List ℕ) where
-  pub among_step : (i : ℕ) → i < count → count ≤ length ns
-      → among n (drop i (take count ns)) ≡ eqb n (get_or ns i 0) || among n (drop (i + 1) (take count ns))
-  among_step i h k =
-      let l : i < length (take count ns) = omega (arith, length-take count ns) in
-      rw (add-one i, drop-cons (take count ns) i 0 l, get_or-take count ns i 0 h)
+-- ---- the test for a packet nonce
+eqb_comm : (a b : ℕ) → eqb a b ≡ eqb b a
+eqb_comm a b = go (eqb a b) refl
+  where
+    go : (t : Bool) → eqb a b ≡ t → t ≡ eqb b a
+    go true e = sym (eq-eqb b a (sym (eqb-true a b e)))
+    go false e = sym (ne_eqb b a (λ q. true_false (sym (eq-eqb a b (sym q)) ∙ e)))
 
-  pub among_end : (i : ℕ) → count ≤ i → among n (drop i (take count ns)) ≡ false
-  among_end i h =
-      let l : length (take count ns) ≤ i = omega (arith, length-take count ns) in
-      rw (drop_of_length-le (take count ns) l)
+any_among : (n : ℕ) (ns : List ℕ) → list_any (λ (m : ℕ). eqb m n) ns ≡ among n ns
+any_among n [] = refl
+any_among n (m ∷ ns) = rw (eqb_comm m n, any_among n ns)
+
+pub holds_any : (self m : NonceMemory) (n : ℕ) {b : Bool} → m ≡ limited self → b ≡ list_any (λ (k : ℕ). eqb k n) (take m.count m.nonces) → b ≡ among n (remembered self)
+unfolding remembered
+holds_any self m n e h = h ∙ any_among n (take m.count m.nonces) ∙ ap (λ (x : NonceMemory). among n (take x.count x.nonces)) e
 
 -- ---- one more
 -- the places after it

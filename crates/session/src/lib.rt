@@ -56,16 +56,15 @@ fn whole_minutes(t: Seconds) -> Minutes
 }
 
 // The memory after an accepted session nonce: kept where it equals the one held, else empty.
+#[tactic(auto, unfolding(crate::specs::Session::memory_after))]
 fn memory_after(there: bool, old: [u8; 5], memory: NonceMemory, nonce: [u8; 5]) -> NonceMemory
     ensures { result ≡ memory_after there old memory nonce }
 {
-    if there {
-        if wire::same_bytes(&old, &nonce) {
-            return memory;
-        }
-        return NonceMemory::empty();
+    if there && old == nonce {
+        memory
+    } else {
+        NonceMemory::empty()
     }
-    NonceMemory::empty()
 }
 
 impl Session {
@@ -82,14 +81,11 @@ impl Session {
     }
 
     // Whether there is one, run out or not. One whose memory's count lies outside its limits is none.
+    #[tactic(auto, unfolding(crate::specs::Session::session_there))]
     pub fn is_there(self) -> bool
         ensures { result ≡ session_there self }
     {
-        if self.held {
-            let memory = self.memory;
-            return memory.fits();
-        }
-        false
+        self.held && self.memory.fits()
     }
 
     // The session after a session nonce message is accepted.
@@ -149,14 +145,11 @@ impl Connection {
     }
 
     // Whether there is one. One whose memory's count lies outside its limits is none.
+    #[tactic(auto, unfolding(crate::specs::Session::connection_there))]
     pub fn is_there(self) -> bool
         ensures { result ≡ connection_there self }
     {
-        if self.held {
-            let memory = self.memory;
-            return memory.fits();
-        }
-        false
+        self.held && self.memory.fits()
     }
 
     // The connection session after session data is accepted.

@@ -1,16 +1,9 @@
 // The packet nonces that a session remembers: the last eight, newest first.
-ghost use Rattle.std.specs.Prelude.{◌≡◌, ◌+◌, min};
+ghost use Rattle.std.specs.Prelude.{◌≡◌, ◌≤◌};
 ghost use Rattle.wire.specs.Rules.{among};
 ghost use Rattle.session.specs.Memory.{empty_memory, count_fits, limited, remembered, remembering};
 
 use crate::NonceMemory;
-
-// One more, of at most eight.
-fn one_more(count: usize) -> usize
-    ensures { result ≡ min 8 (count + 1) }
-{
-    if count < 8 { count + 1 } else { 8 }
-}
 
 impl NonceMemory {
     pub fn empty() -> NonceMemory
@@ -30,13 +23,15 @@ impl NonceMemory {
     }
 
     // One whose count lies outside is taken as fresh.
+    #[tactic(auto, unfolding(crate::specs::Memory::limited))]
     fn limited(self) -> NonceMemory
-        ensures { result ≡ limited self }
+        ensures { (result ≡ limited self) × (result.count ≤ 8) }
     {
         if self.fits() {
-            return self;
+            self
+        } else {
+            NonceMemory::empty()
         }
-        NonceMemory::empty()
     }
 
     // Whether a packet nonce is remembered, by its number.
@@ -44,16 +39,7 @@ impl NonceMemory {
         ensures { result ≡ among number (remembered self) }
     {
         let memory = self.limited();
-        let count = memory.count;
-        let nonces = memory.nonces;
-        let mut i: usize = 0;
-        while i < count {
-            if number == nonces[i] {
-                return true;
-            }
-            i += 1;
-        }
-        false
+        memory.nonces[..memory.count].contains(&number)
     }
 
     // The memory after one more, which is put in front; eight are kept.
@@ -63,7 +49,7 @@ impl NonceMemory {
         let memory = self.limited();
         let n = memory.nonces;
         NonceMemory {
-            count: one_more(memory.count),
+            count: (memory.count + 1).min(8),
             nonces: [number, n[0], n[1], n[2], n[3], n[4], n[5], n[6]],
         }
     }

@@ -15,14 +15,7 @@ use text::reading;
 fn filled(places: [u32; 8]) -> usize
     ensures { (result ≡ specs.filled 8 places) × (result ≤ 8) }
 {
-    let mut n: usize = 8;
-    while 0 < n {
-        if places[n - 1] != 0 {
-            return n;
-        }
-        n -= 1;
-    }
-    0
+    places.iter().rposition(|n| *n != 0).map_or(0, |k| k + 1)
 }
 
 fn put_place(out: &mut [u8], at: usize, nonce: u32) -> usize
@@ -37,10 +30,8 @@ fn put_places(out: &mut [u8], at: usize, places: &[u32]) -> usize
     ensures { Puts (specs.places_text places.now) at out.old result out.new }
 {
     let mut behind = at;
-    let mut i: usize = 0;
-    while i < places.len() {
-        behind = put_place(out, behind, places[i]);
-        i += 1;
+    for nonce in places {
+        behind = put_place(out, behind, *nonce);
     }
     behind
 }

@@ -1,12 +1,12 @@
 -- The digits of a number, the last first, and the turns of the loops that put texts. Assumes nothing.
 use mathlib.Core.Path.{◌≡◌, sym, ◌∙◌}
 use mathlib.Core.List.{List, [], ◌∷◌, ◌++◌, append-nil}
-use Prim.Native.Nat.{ℕ, zero, suc, ◌+◌, ◌^◌, ◌/◌, ◌%◌, ◌≤◌, ◌<◌}
+use Prim.Native.Nat.{ℕ, zero, suc, ◌+◌, ◌-◌, ◌^◌, ◌/◌, ◌%◌, ◌≤◌, ◌<◌}
 use native.Mathlib.Nat.{pow-suc}
 use native.Mathlib.Numerals.{add-one}
 use native.Mathlib.Omega.{arith}
-use lib.ListN.{length, drop, set, get_or, length-set, drop_of_length-le, length-append}
-use lib.Seq.{drop-cons, drop-set-lt, get_or-set_same, append_snoc}
+use lib.ListN.{length, take, drop, length-drop, set, get_or, length-set, drop_of_length-le, length-append}
+use lib.Seq.{take_all, drop-cons, drop-set-lt, get_or-set_same, append_snoc}
 use lib.Dec.{ltb}
 use borrow.Author.Tests.{lt-ltb, le-ltb}
 use Rattle.wire.proofs.Choice.{pick_all}
@@ -56,11 +56,12 @@ module _ {n : ℕ} {room : List ℕ} {i rest : ℕ} (l : Left n room i rest) (j 
             (sym (append_snoc (decimal_in j (rest / 10)) (digit (rest % 10)) (drop (suc j) room)) ∙ rw (e, le-ltb rest 10 h) at l.same);
       }
 
-  pub left_none : {d : ℕ} → rest ≤ 9 → d ≡ digit rest → drop j (set room j d) ≡ decimal n
+  pub left_none : {d : ℕ} → rest ≤ 9 → d ≡ digit rest → take (20 - j) (drop j (set room j d)) ≡ decimal n
   unfolding decimal_in
-  left_none h q =
+  left_none {d} h q =
       let k : rest < 10 = omega arith in
-      rw (q, set_front room j (digit rest) (omega arith), lt-ltb rest 10 k) (rw (e, lt-ltb rest 10 k) at l.same)
+      take_all (20 - j) (drop j (set room j d)) (omega (arith, length-drop j (set room j d), length-set room j d, l.whole))
+      ∙ rw (q, set_front room j (digit rest) (omega arith), lt-ltb rest 10 k) (rw (e, lt-ltb rest 10 k) at l.same)
 
 pub decimal_length : (k n : ℕ) → length (decimal_in k n) ≤ k
 unfolding decimal_in

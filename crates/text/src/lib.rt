@@ -3,7 +3,7 @@
 
 pub mod reading;
 
-ghost use Rattle.std.specs.Prelude.{◌≡◌, ◌++◌, ◌∷◌, [], ◌<◌, ◌≤◌, length, drop};
+ghost use Rattle.std.specs.Prelude.{◌≡◌, ◌++◌, ◌∷◌, [], ◌<◌, length};
 ghost use Rattle.text.specs.Puts.{Puts};
 ghost use Rattle.text.specs.Digits as digits;
 
@@ -12,10 +12,8 @@ pub fn put(out: &mut [u8], at: usize, s: &[u8]) -> usize
     ensures { Puts s.now at out.old result out.new }
 {
     let mut behind = at;
-    let mut i: usize = 0;
-    while i < s.len() {
-        behind = put_byte(out, behind, s[i]);
-        i += 1;
+    for b in s {
+        behind = put_byte(out, behind, *b);
     }
     behind
 }
@@ -36,10 +34,7 @@ fn digit(d: u8) -> u8
     requires { d < 16 }
     ensures { result ≡ digits.digit d }
 {
-    if d < 10 {
-        return 48 + d;
-    }
-    87 + d
+    if d < 10 { b'0' + d } else { b'a' + (d - 10) }
 }
 
 // A number in decimal.
@@ -49,6 +44,7 @@ pub fn decimal(out: &mut [u8], at: usize, n: u64) -> usize
     let mut room = [0u8; 20];
     let mut i: usize = 20;
     let mut rest = n;
+    // The loop goes down the number: how many digits it has is known at its end.
     while 9 < rest {
         i -= 1;
         room[i] = digit((rest % 10) as u8);
@@ -56,15 +52,7 @@ pub fn decimal(out: &mut [u8], at: usize, n: u64) -> usize
     }
     let first = i - 1;
     room[first] = digit(rest as u8);
-    put(out, at, from(&room, first))
-}
-
-// The bytes from a place on.
-fn from(s: &[u8], at: usize) -> &[u8]
-    requires { at ≤ length s.now }
-    ensures { result.now ≡ drop at s.now }
-{
-    &s[at..]
+    put(out, at, &room[first..])
 }
 
 // Numbers in decimal, each behind a space.
@@ -72,11 +60,9 @@ pub fn decimals(out: &mut [u8], at: usize, ns: &[u64]) -> usize
     ensures { Puts (digits.decimals ns.now) at out.old result out.new }
 {
     let mut behind = at;
-    let mut i: usize = 0;
-    while i < ns.len() {
+    for n in ns {
         behind = put_byte(out, behind, b' ');
-        behind = decimal(out, behind, ns[i]);
-        i += 1;
+        behind = decimal(out, behind, *n);
     }
     behind
 }
@@ -94,12 +80,9 @@ pub fn hex(out: &mut [u8], at: usize, s: &[u8]) -> usize
     ensures { Puts (digits.hex s.now) at out.old result out.new }
 {
     let mut behind = at;
-    let mut i: usize = 0;
-    while i < s.len() {
-        let b = s[i];
-        behind = put_byte(out, behind, digit(b / 16));
-        behind = put_byte(out, behind, digit(b % 16));
-        i += 1;
+    for b in s {
+        behind = put_byte(out, behind, digit(*b / 16));
+        behind = put_byte(out, behind, digit(*b % 16));
     }
     behind
 }

@@ -1,15 +1,14 @@
 -- An image of five slices. Assumes nothing.
 use mathlib.Core.Path.{◌≡◌, ◌∙◌}
 use mathlib.Core.List.{List, [], ◌∷◌, ◌++◌}
-use Prim.Native.Nat.{ℕ, ◌+◌, ◌≤◌, ◌<◌}
+use Prim.Native.Nat.{ℕ, ◌+◌, ◌≤◌}
 use native.Mathlib.Omega.{arith}
 use lib.ListN.{length, length-append}
 use lib.Seq.{sets}
 use Rattle.wire.specs.Writing.{Stores, no_room}
 use Rattle.std.specs.Prelude.{Ok}
-use Rattle.wire.specs.Refusals.{refusing}
 use Rattle.wire.proofs.Lists.{sets_then}
-use Rattle.wire.proofs.Writing.{stores_short, stores_made}
+use Rattle.wire.proofs.Writing.{stores_made}
 
 -- a run of stores behind others, each where the last ends
 sets_five : (a b c d e l : List ℕ) (i j k n : ℕ) → i ≡ length a → j ≡ i + length b → k ≡ j + length c → n ≡ k + length d
@@ -24,10 +23,6 @@ module _ (a b c d e room : List ℕ) where
   five_length : length (a ++ (b ++ (c ++ (d ++ e)))) ≡ length a + length b + length c + length d + length e
   five_length =
       omega (arith, length-append a (b ++ (c ++ (d ++ e))), length-append b (c ++ (d ++ e)), length-append c (d ++ e), length-append d e)
-
-  pub five_short : length room < length a + length b + length c + length d + length e
-      → Stores (no_room 0 (a ++ (b ++ (c ++ (d ++ e)))) room ∷ []) 0 (a ++ (b ++ (c ++ (d ++ e)))) room (refusing 25) room
-  five_short h = stores_short 0 (a ++ (b ++ (c ++ (d ++ e)))) room (omega (arith, five_length))
 
   pub five_made : {after : List ℕ} {all i j k n : ℕ} → length a + length b + length c + length d + length e ≤ length room
       → i ≡ length a → j ≡ i + length b → k ≡ j + length c → n ≡ k + length d

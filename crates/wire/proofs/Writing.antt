@@ -54,10 +54,6 @@ module _ (a b c room : List ℕ) where
   three_length : length (a ++ (b ++ c)) ≡ length a + length b + length c
   three_length = omega (arith, length-append a (b ++ c), length-append b c)
 
-  pub three_short : length room < length a + length b + length c
-      → Stores (no_room 0 (a ++ (b ++ c)) room ∷ []) 0 (a ++ (b ++ c)) room (refusing 25) room
-  three_short h = stores_short 0 (a ++ (b ++ c)) room (omega (arith, three_length))
-
   pub three_made : {after : List ℕ} {n i j : ℕ} → length a + length b + length c ≤ length room → i ≡ length a → j ≡ length a + length b
       → after ≡ sets (sets (sets room 0 a) i b) j c → n ≡ length a + length b + length c
       → Stores (no_room 0 (a ++ (b ++ c)) room ∷ []) 0 (a ++ (b ++ c)) room (Ok n) after

@@ -9,27 +9,17 @@ use crate::{Part, Refusal};
 pub fn runs_past(s: &[u8], p: Part) -> bool
     ensures { result ≡ past s.now p }
 {
-    let start = p.start;
-    let len = p.len;
-    if s.len() < start {
-        return true;
-    }
-    if s.len() - start < len {
-        return true;
-    }
-    false
+    s.len() < p.start.saturating_add(p.len)
 }
 
 // Whether the second byte of a pair is above a limit.
 pub fn second_above(limit: u8, s: &[u8]) -> bool
     ensures { result ≡ second_above limit s.now }
 {
-    let mut k: usize = 1;
-    while k < s.len() {
-        if limit < s[k] {
+    for pair in s.chunks_exact(2) {
+        if limit < pair[1] {
             return true;
         }
-        k += 2;
     }
     false
 }
@@ -46,27 +36,14 @@ pub fn write5(
     ensures { Stores (no_room 0 (a.now ++ (b.now ++ (c.now ++ (d.now ++ e.now)))) out.old ∷ []) 0
         (a.now ++ (b.now ++ (c.now ++ (d.now ++ e.now)))) out.old result out.new }
 {
-    let room = out.len();
     let to_b = a.len();
-    if room < to_b {
+    let to_c = to_b.saturating_add(b.len());
+    let to_d = to_c.saturating_add(c.len());
+    let to_e = to_d.saturating_add(d.len());
+    let all = to_e.saturating_add(e.len());
+    if out.len() < all {
         return Err(Refusal::NoRoom);
     }
-    if room - to_b < b.len() {
-        return Err(Refusal::NoRoom);
-    }
-    let to_c = to_b + b.len();
-    if room - to_c < c.len() {
-        return Err(Refusal::NoRoom);
-    }
-    let to_d = to_c + c.len();
-    if room - to_d < d.len() {
-        return Err(Refusal::NoRoom);
-    }
-    let to_e = to_d + d.len();
-    if room - to_e < e.len() {
-        return Err(Refusal::NoRoom);
-    }
-    let all = to_e + e.len();
     crate::copy(a, 0, out);
     crate::copy(b, to_b, out);
     crate::copy(c, to_c, out);

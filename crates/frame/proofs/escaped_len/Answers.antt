@@ -5,12 +5,8 @@ use lib.ListN.{length}
 use Rattle.frame.proofs.Escape.{rest_length, rest_none}
 use Rattle.frame.proofs.escaped_len.Goals as goal
 
-pub loop-i-preserved : goal.loop-i-preserved
-loop-i-preserved c =
-    let l = c in
-    omega (arith, rest_length l.args.s.now l.loop-i.i c.loop-i-test.true)
+pub loop-b-preserved : goal.loop-b-preserved
+loop-b-preserved c = omega (arith, rest_length c.args.s.now c.loop-b.b-index c.loop-b-test.true)
 
 pub returns : goal.returns
-returns c =
-    let l = c in
-    omega (arith, ap length (rest_none l.args.s.now l.loop-i.i c.loop-i-test.false))
+returns c = omega (arith, ap length (rest_none c.args.s.now c.loop-b.b-index c.loop-b-test.false))

@@ -1,20 +1,13 @@
--- `filled` meets its contract: zero places are passed from the end on. Assumes nothing.
-use Prim.Native.Nat.{◌-◌}
-use mathlib.Core.Path.{sym, ◌∙◌}
-use native.Mathlib.Omega.{arith}
-use Rattle.session_text.proofs.Places.{filled_all, filled_less, filled_none}
+-- `filled` meets its contract. Assumes nothing.
+use Rattle.std.proofs.Common.{arith, ℕ, ◌≡◌, ◌≤◌, ◌<◌, ◌+◌, get_or}
+use Rattle.std.proofs.lemmas.Grind.{common_steps}
+use Rattle.session_text.proofs.Places.{filled_is}
 use Rattle.session_text.proofs.filled.Goals as goal
 
-pub returns-then-places-n-ne0 : goal.returns-then-places-n-ne0
-returns-then-places-n-ne0 c =
-    let n = c.loop-n.n in
-    let i = c.loop-n.invariant in
-    (sym (i.1 ∙ filled_all _ (n - 1) (omega arith) c.if-places-n-ne0.true), i.0)
-
-pub loop-n-preserved : goal.loop-n-preserved
-loop-n-preserved c =
-    let n = c.loop-n.n in
-    (omega arith, c.loop-n.invariant.1 ∙ filled_less _ (n - 1) (omega arith) c.if-places-n-ne0.false)
-
 pub returns : goal.returns
-returns c = (sym (c.loop-n.invariant.1 ∙ filled_none _ (omega arith)), omega arith)
+returns c =
+    let r : ℕ = c.map_or.result in
+    let top : r ≤ 8 = grind (arith, common_steps) in
+    let zero : (k : ℕ) → r ≤ k → k < 8 → get_or c.args.places k 0 ≡ 0 = λ k h l. grind (arith, common_steps) in
+    let last : (i : ℕ) → r ≡ i + 1 → get_or c.args.places i 0 ≡ 0 → ⊥ = λ i h e. grind (arith, common_steps) in
+    (filled_is c.args.places 8 r top zero last, top)

@@ -2,7 +2,6 @@
 use Rattle.text.proofs.Digits.{left_less, left_none}
 use Rattle.text.proofs.Puts.{puts_same}
 use Prim.Native.Nat.{◌-◌}
-use mathlib.Core.Path.{◌∙◌}
 use native.Mathlib.Omega.{arith}
 use Rattle.text.proofs.decimal.Goals as goal
 
@@ -13,6 +12,5 @@ loop-rest-preserved c =
 
 pub returns : goal.returns
 returns c =
-    let f = c in
-    let l = f.loop-rest in
-    puts_same c.put.ensures (f.from.ensures ∙ left_none l.invariant (l.i - 1) (omega arith) (omega arith) f.digit-2.ensures)
+    let l = c.loop-rest in
+    puts_same c.put.ensures (left_none l.invariant (l.i - 1) (omega arith) (omega arith) c.digit-2.ensures)

@@ -1,9 +1,6 @@
 -- `put` meets its contract. Assumes nothing.
 use Rattle.text.proofs.Puts.{leaves_less, bytes_at}
-use native.Mathlib.Omega.{arith}
 use Rattle.text.proofs.put.Goals as goal
 
-pub loop-i-preserved : goal.loop-i-preserved
-loop-i-preserved c =
-    let a = c in
-    (omega arith, leaves_less a.loop-i.invariant.1 (bytes_at _ _ a.loop-i-test.true) c.put_byte-behind.ensures)
+pub loop-b-preserved : goal.loop-b-preserved
+loop-b-preserved c = leaves_less c.loop-b.invariant (bytes_at _ _ c.loop-b-test.true) c.put_byte-behind.ensures

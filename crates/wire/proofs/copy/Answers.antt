@@ -1,11 +1,8 @@
--- `copy` meets its contract: the bytes passed are a run of stores. Assumes nothing.
-use Rattle.wire.proofs.Lists.{copy_more}
-use lib.ListN.{length-set}
-use native.Mathlib.Omega.{arith}
+-- `copy` meets its contract: what is put at a place is a run of stores. Assumes nothing.
+use Rattle.wire.proofs.Lists.{put_sets}
 use Rattle.wire.proofs.copy.Goals as goal
 
-pub loop-k-preserved : goal.loop-k-preserved
-loop-k-preserved c =
+pub returns : goal.returns
+returns c =
     let a = c.args in
-    let l = c.loop-k in
-    (omega arith, rw l.invariant.1 (copy_more a.bytes.now a.out.now a.at l.k (omega arith)), simp length-set l.invariant.2)
+    rw c.copy_from_slice.ensures.after (put_sets a.at a.bytes.now a.out.now c.requires)

@@ -9,4 +9,4 @@ returns c =
     let g = c.args in
     three_made g.a.now g.b.now g.c.now g.out.now (omega arith) refl refl
     (c.copy-3.ensures ∙ rw (c.copy-2.ensures, c.copy.ensures))
-    refl
+    (omega arith)

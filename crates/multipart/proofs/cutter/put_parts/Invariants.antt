@@ -11,6 +11,3 @@ use Rattle.multipart.proofs.cutter.put_parts.Given as goal
 abbrev pub invariant-loop-k : goal.invariant-loop-k
 invariant-loop-k l = (l.k ≤ l.full) × (l.from + (l.full - l.k) * l.size ≤ length l.message) × (length l.out ≡ length l.initial.out)
     × (sets l.out (l.from + l.k) (remaining l.size l.k (l.full - l.k) (drop l.from l.message)) ≡ sets l.initial.out 0 (flatten (parts (cut_after l.full l.size l.message))))
-
-abbrev pub decreases-loop-k : goal.decreases-loop-k
-decreases-loop-k l = l.full - l.k

@@ -7,6 +7,7 @@ use Rattle.session.specs.Memory.{in_front, remembering}
 use Rattle.session.specs.declared.NonceMemory.{NonceMemory}
 use Rattle.session.proofs.Remembered.{eight_places}
 use borrow.Author.Rules.{rules}
+use native.Mathlib.Omega.{arith}
 use Rattle.session.proofs.NonceMemory.remember.Goals as goal
 
 pub returns : goal.returns
@@ -15,5 +16,5 @@ returns c =
     let m = c.limited-memory in
     let n = c.args.number in
     let long : length m.result.nonces ≡ 8 = search rules in
-    ap₂ {C = NonceMemory} (λ (k : ℕ) (ns : List ℕ). record { count = k; nonces = ns }) c.one_more.ensures (eight_places n m.result.nonces long)
-    ∙ ap {B = NonceMemory} (λ (x : NonceMemory). record { count = min 8 (x.count + 1); nonces = in_front n x.nonces }) m.ensures
+    ap₂ {C = NonceMemory} (λ (k : ℕ) (ns : List ℕ). record { count = k; nonces = ns }) (omega arith) (eight_places n m.result.nonces long)
+    ∙ ap {B = NonceMemory} (λ (x : NonceMemory). record { count = min 8 (x.count + 1); nonces = in_front n x.nonces }) m.ensures.0

@@ -1,11 +1,10 @@
 -- `bytes` meets its contract. Assumes nothing.
-use Prim.Native.Nat.{◌+◌, ◌-◌, ◌≤◌}
-use Rattle.text.specs.Reading.{listed, fields_from}
+use Rattle.std.proofs.Common.{suc, ◌-◌, length}
+use Rattle.text.specs.Reading.{count, listed, fields_from}
 use Rattle.text.proofs.Puts.{Leaves}
 use Rattle.text.proofs.reading.bytes.Given as goal
 
-abbrev pub invariant-loop-k : goal.invariant-loop-k
-invariant-loop-k l = (l.k ≤ l.last + 1) × Leaves (listed l.s) l.at l.initial.out (fields_from l.k (l.last + 1 - l.k) l.s) l.behind l.out
-
-abbrev pub decreases-loop-k : goal.decreases-loop-k
-decreases-loop-k l = l.last + 1 - l.k
+abbrev pub invariant-loop-piece : goal.invariant-loop-piece
+invariant-loop-piece l =
+    (goal.iterator-loop-piece).can_next l.piece-iterator × (goal.iterator-loop-piece).is_finite l.piece-iterator
+    × Leaves (listed l.s) l.at l.initial.out (fields_from (length l.yielded) (suc (count 43 l.s) - length l.yielded) l.s) l.behind l.out

@@ -1,22 +1,14 @@
 -- `field` meets its contract. Assumes nothing.
-use native.Mathlib.Omega.{arith}
-use mathlib.Core.Path.{◌≡◌}
-use Prim.Native.Nat.{◌-◌}
-use Rattle.text.proofs.Fields.{field_next, field_past, field_end}
+use Rattle.std.proofs.Common.{rules, refl, ap, Bor, List, ℕ, eqb, ◌∙◌}
+use Rattle.std.proofs.lemmas.Iterator.Consumers.{nth_from_yields_List}
+use Rattle.std.proofs.lemmas.Iterator.Splits.{YieldsList-from_slice_split}
+use Rattle.text.proofs.Fields.{field_or}
 use Rattle.text.proofs.reading.field.Goals as goal
-
-pub returns-then-s-end : goal.returns-then-s-end
-returns-then-s-end c =
-    let l = c.loop-left in
-    field_past (l.left - 1) c.find-end.ensures c.if-s-end.true (omega arith) l.invariant.1
-
-pub loop-left-preserved : goal.loop-left-preserved
-loop-left-preserved c =
-    let l = c.loop-left in
-    (omega arith, field_next (l.left - 1) c.find-end.ensures (omega arith) l.invariant.1)
 
 pub returns : goal.returns
 returns c =
-    let l = c.loop-left in
-    let z : l.left ≡ 0 = omega arith in
-    field_end c.find-end-2.ensures z l.invariant.1
+    let s = c.split.ensures in
+    ap (λ (b : Bor (List ℕ)). b.now) c.unwrap_or.ensures
+    ∙ field_or c.args.s.now c.args.sep c.args.k c.nth.result _ refl
+    (nth_from_yields_List _ _ c.args.k c.nth.ensures.ran
+    (YieldsList-from_slice_split _ (λ (b : ℕ). eqb b c.args.sep) c.args.s.now s.rest s.done s.closure (λ x r q k. search rules)))

@@ -1,14 +1,20 @@
 -- `pairs` meets its contract. Assumes nothing.
-use native.Mathlib.Omega.{arith}
+use Rattle.std.proofs.Common.{arith, ◌∙◌}
 use Rattle.text.proofs.Puts.{leaves_less, leaves_none}
-use Rattle.text.proofs.Fields.{pairs_at, pairs_past}
+use Rattle.text.proofs.Fields.{pairs_chunk, short_pairs}
 use Rattle.text.proofs.reading.pairs.Goals as goal
 
-pub loop-i-preserved : goal.loop-i-preserved
-loop-i-preserved c =
-    let v = c in
-    let l = v in
-    (omega arith, leaves_less l.loop-i.invariant.1 (pairs_at _ _ l.loop-i-test.true v.value-high.ensures.0 v.value-low.ensures.0) c.put_byte-behind.ensures)
+pub loop-pair-preserved : goal.loop-pair-preserved
+loop-pair-preserved c =
+    let l = c.loop-pair.invariant in
+    let s = c.in-Some.ensures.steps in (
+      omega (arith, s.0, l.2),
+      tt,
+      s.0 ∙ l.2,
+      leaves_less l.3 (pairs_chunk c.in-Some.pair.now _ (s.1.1 ∙ l.2) s.1.0 c.value.ensures.0 c.value-in-loop-pair.ensures.0) c.put_byte-behind.ensures,
+    )
 
 pub returns : goal.returns
-returns c = leaves_none c.loop-i.invariant.1 (pairs_past _ _ c.loop-i-test.false)
+returns c =
+    let l = c.loop-pair.invariant in
+    leaves_none l.3 (short_pairs _ (omega (arith, c.in-None.ensures.steps.1.0, l.2)))
