@@ -2,14 +2,14 @@
 use mathlib.Core.Path.{◌≡◌, refl, sym, ap, ap₂, ◌∙◌, subst}
 use mathlib.Core.List.{List, [], ◌∷◌, ◌++◌}
 use mathlib.Core.Bool.{Bool, true, false}
-use Prim.Native.Nat.{ℕ, suc, ◌+◌, ◌-◌, ◌≤◌, ◌<◌}
+use Prim.Native.Nat.{ℕ, zero, suc, ◌+◌, ◌-◌, ◌≤◌, ◌<◌}
 use native.Mathlib.Numerals.{add-one}
 use native.Mathlib.Omega.{arith}
 use lib.ListN.{length, take, drop, get_or, set, drop_of_length-le, take-append-drop}
 use lib.Seq.{drop-cons, drop-drop, take-nil}
-use lib.Dec.{eqb}
+use lib.Dec.{eqb, ltb}
 use lib.Bits.{bit_xor}
-use borrow.Author.Tests.{ne_eqb, eqb-true}
+use borrow.Author.Tests.{ne_eqb, eqb-true, ltb-true, ltb-false}
 use Rattle.wire.specs.Choice.{pick}
 use Rattle.wire.proofs.Choice.{pick_all, true_false}
 use Rattle.line.specs.Receive.{busy, reading, holding, step_to, step_of}
@@ -21,7 +21,7 @@ use Rattle.line.proofs.Run.{run_one, run_append}
 use Rattle.line.proofs.Moves.{busy_counts, stepped, taken_more, move_plain, move_mark, move_3_e, move_1_c}
 use Rattle.std.proofs.lemmas.Bool.{or_cases}
 use Rattle.std.proofs.Common.{◌⊎◌, inl, inr}
-use Rattle.line.specs.Escapes.{StandsAt, stands_for_byte}
+use Rattle.line.specs.Escapes.{StandsAt, FirstStart, stands_for_byte}
 use Rattle.line.specs.Escapes.StandsAt.{plain, escaped}
 use Rattle.line.specs.declared.Action.TheVariants.{Put}
 use Rattle.line.specs.declared.Progress.{Progress}
@@ -173,6 +173,20 @@ passes_next s from i below p before h st t =
           feed_next s i (holding h st) (step_to h st Nothing) below
           (stepped h (get_or s i 0) st (keep h) st Nothing (simp (ne_eqb _ _ p, t)) (record { store = refl; event = refl })) refl;
     })
+
+-- noise, up to a start byte
+passes_some : (s : List ℕ) (from k : ℕ) → from + k ≤ length s → ((i : ℕ) → from ≤ i → i < from + k → get_or s i 0 ≡ 0x7E → ⊥) → Passes s from (from + k)
+passes_some s from zero h n = let e : from + 0 ≡ from = omega arith in rw e (λ p st t. skips_none s from (holding p st))
+passes_some s from (suc k) h n =
+    let e : from + suc k ≡ from + k + 1 = omega arith in
+    rw e (passes_next s from (from + k) (omega arith) (n (from + k) (omega arith) (omega arith)) (passes_some s from k (omega arith) (λ i l u. n i l (omega arith))))
+
+pub passes_noise : {s : List ℕ} {from to : ℕ} → FirstStart s from to → Passes s from to
+passes_noise {s} {from} {to} f = go (to - from) (omega (arith, f.forward)) (ltb from to) refl
+  where
+    go : (k : ℕ) → from + k ≡ to → (t : Bool) → ltb from to ≡ t → Passes s from to
+    go k e true l = subst (Passes s from) e (passes_some s from k (omega (arith, f.within, ltb-true from to l)) (λ i a b. f.clear i a (omega arith)))
+    go k e false l = let z : from ≡ to = omega (arith, f.forward, ltb-false from to l) in subst (Passes s from) z (λ p st t. skips_none s from (holding p st))
 
 -- ---- what a feed hands out is what its bytes give one by one
 used_more : (n b : ℕ) (bs : List ℕ) (r : Receiver) → suc n ≤ (fed (suc n) bs (step_of r b).receiver).used → n < (fed n (b ∷ bs) r).used

@@ -1,5 +1,5 @@
 -- The unescaped byte that stands at a place of a line.
-use Rattle.std.specs.Prelude.{ℕ, ◌+◌, ◌≤◌, ◌<◌, ◌≡◌, List, Bool, true, false, ◌||◌, length, get_or, eqb}
+use Rattle.std.specs.Prelude.{ℕ, ◌+◌, ◌≤◌, ◌<◌, ◌≡◌, List, Bool, true, false, ◌||◌, length, get_or, eqb, max}
 use Rattle.std.specs.Int.Bits.{bit_xor}
 
 -- 3E and 1C stand for another byte behind a 5C
@@ -25,3 +25,10 @@ pub data NothingAt (s : List ℕ) (at : ℕ) : Type 0 where
   cut : at < length s → get_or s at 0 ≡ 0x5C → length s ≤ at + 1 → NothingAt s at
   -- a 5C before a byte that stands for no other
   bad : at + 1 < length s → get_or s at 0 ≡ 0x5C → stands_for_byte (get_or s (at + 1) 0) ≡ false → NothingAt s at
+
+-- the first 7E from a place on; the end, or that place where it lies behind the end, if there is none
+pub record FirstStart (s : List ℕ) (from to : ℕ) : Type 0 where
+  pub forward : from ≤ to
+  pub within : to ≤ max from (length s)
+  pub clear : (i : ℕ) → from ≤ i → i < to → get_or s i 0 ≡ 0x7E → ⊥
+  pub there : to < length s → get_or s to 0 ≡ 0x7E

@@ -7,7 +7,7 @@ ghost use Rattle.line.specs.Line.{Received};
 ghost use Rattle.line.specs.Feed as feeding;
 ghost use Rattle.line.specs.Feed.{Skips, CountBounded, Unescapes, Feeds};
 ghost use Rattle.line.specs.Moves as moves;
-ghost use Rattle.line.specs.Escapes.{StandsAt, NothingAt, stands_for_byte};
+ghost use Rattle.line.specs.Escapes.{StandsAt, NothingAt, FirstStart, stands_for_byte};
 
 use wire::Part;
 
@@ -421,11 +421,11 @@ fn body(
     }
 }
 
-// Noise, up to the next start byte, is passed over; the place behind it is given.
-#[tactic(auto, using(crate::proofs::Feeding::passes_next))]
-fn noise(s: &[u8], from: usize) -> usize
-    ensures { feeding.Passes s.now from result }
+// The place of the first start byte from a place on; the end where there is none.
+pub fn first_start(s: &[u8], from: usize) -> usize
+    ensures { FirstStart s.now from result }
 {
+    // Not `position`: over noise that takes 1.3 times as long.
     for i in from..s.len() {
         if s[i] == 0x7E {
             return i;
@@ -442,7 +442,7 @@ fn skip(progress: Progress, store: &mut [u8; 512], s: &[u8], from: usize) -> Ski
     if !progress.busy() {
         return Skipped {
             progress,
-            at: noise(s, from),
+            at: first_start(s, from),
         };
     }
     if progress.escaped || progress.got < 2 {
