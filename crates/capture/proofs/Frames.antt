@@ -7,7 +7,6 @@ use lib.ListN.{length, take, drop, get_or, length-append, length-drop, take-appe
 use lib.Seq.{take-append-le, drop-append-le, length-take-le}
 use borrow.Author.Tests.{eq-eqb, ne_eqb, le-leb}
 use Rattle.wire.specs.Numbers.{num}
-use Rattle.wire.specs.Parts.{part, part_of}
 use Rattle.wire.proofs.Lists.{part_in}
 use Rattle.crc.specs.Crc.{crc_of}
 use Rattle.line.specs.Receive.{frame_payload}
@@ -33,16 +32,13 @@ frame_front size place s h5 h512 l =
 
 -- as the code checks it: the CRC that was worked out, and the one that was sent
 module _ (size place : ℕ) (s : List ℕ) (h5 : 5 ≤ size) (h512 : size ≤ 512) (l : size ≤ length s) (sum sent : ℕ)
-    (worked : sum ≡ crc_of (part_of s (part 0 (size - 2)))) (came : sent ≡ num 2 (size - 2) s) where
-  covered : crc_of (take (size - 2) s) ≡ sum
-  covered = sym (worked ∙ ap crc_of (part_in s 0 (size - 2) (omega arith)))
-
+    (worked : sum ≡ crc_of (take (size - 2) s)) (came : sent ≡ num 2 (size - 2) s) where
   pub crc_differs : (sum ≡ sent → ⊥) → refusal 4 place ∷ [] ≡ checked size place (take size s)
   unfolding frame_gives
   crc_differs n =
-      sym (sym (frame_front size place s h5 h512 l) ∙ simp (ne_eqb _ _ (let k : crc_of (take (size - 2) s) ≡ num 2 (size - 2) s → ⊥ = λ q. n (sym covered ∙ q ∙ sym came) in k)))
+      sym (sym (frame_front size place s h5 h512 l) ∙ simp (ne_eqb _ _ (let k : crc_of (take (size - 2) s) ≡ num 2 (size - 2) s → ⊥ = λ q. n (worked ∙ q ∙ sym came) in k)))
 
   pub crc_same : sum ≡ sent
       → frame (get_or s 0 0) (get_or s 1 0) (get_or s 2 0) (size - 5) (frame_payload (size - 5) s) ∷ [] ≡ checked size place (take size s)
   unfolding frame_gives
-  crc_same q = sym (sym (frame_front size place s h5 h512 l) ∙ simp (eq-eqb _ _ (let k : crc_of (take (size - 2) s) ≡ num 2 (size - 2) s = covered ∙ q ∙ came in k)))
+  crc_same q = sym (sym (frame_front size place s h5 h512 l) ∙ simp (eq-eqb _ _ (let k : crc_of (take (size - 2) s) ≡ num 2 (size - 2) s = sym worked ∙ q ∙ came in k)))

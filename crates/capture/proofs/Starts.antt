@@ -7,6 +7,7 @@ use mathlib.Core.List.{List}
 use lib.ListN.{length, get_or}
 use lib.Dec.{eqb, ltb}
 use Rattle.wire.proofs.Choice.{or_fails}
+use Rattle.line.specs.Escapes.{FirstStart}
 use Rattle.capture.specs.Looking.{NoStartIn, NoneIn, StartFrom}
 use borrow.Author.Tests.{eqb-true, eqb-false, ltb-true, ltb-false}
 
@@ -37,11 +38,8 @@ none_more s from k a b any h e =
     (eqb-false x a q.1, eqb-false x b p.1)
 
 -- ---- the first start byte
-pub start_here : (s : List ℕ) (from i : ℕ) → from ≤ i → i < length s → NoStartIn s from i → get_or s i 0 ≡ 0x7E → StartFrom s from i
-start_here s from i l u h e = record { forward = l; within = omega arith; clear = h; there = λ b. e }
-
-pub start_none : (s : List ℕ) (from i : ℕ) → from ≤ i → i ≡ length s → NoStartIn s from i → StartFrom s from i
-start_none s from i l u h = record { forward = l; within = omega arith; clear = h; there = λ b. absurd (omega arith) }
+pub start_line : {s : List ℕ} {from to : ℕ} → from ≤ length s → FirstStart s from to → StartFrom s from to
+start_line h f = record { forward = f.forward; within = omega (arith, f.within); clear = f.clear; there = f.there }
 
 -- from further on
 pub start_later : {s : List ℕ} {from i to : ℕ} → from ≤ i → NoStartIn s from i → StartFrom s i to → StartFrom s from to

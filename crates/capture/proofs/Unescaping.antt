@@ -2,8 +2,7 @@
 use mathlib.Core.Path.{◌≡◌, refl, sym, ap, ◌∙◌, subst}
 use mathlib.Core.List.{List, [], ◌∷◌, ◌++◌}
 use mathlib.Core.Bool.{Bool, true, false, ◌||◌}
-use Prim.Native.Nat.{ℕ, zero, suc, ◌+◌, ◌*◌, ◌≤◌, ◌<◌}
-use native.Mathlib.Nat.{mul-pos}
+use Prim.Native.Nat.{ℕ, zero, suc, ◌+◌, ◌≤◌, ◌<◌}
 use native.Mathlib.Omega.{arith}
 use lib.ListN.{length, drop, get_or, drop_of_length-le}
 use lib.Seq.{drop-cons}
@@ -12,9 +11,11 @@ use lib.Dec.{eqb}
 use borrow.Author.Tests.{eq-eqb, ne_eqb, eqb-true, eqb-false}
 use Rattle.wire.specs.Choice.{pick}
 use Rattle.wire.proofs.Choice.{true_false}
-use Rattle.wire.proofs.Xor.{xor_twice}
 use Rattle.capture.specs.Ahead.{Ahead, whole, start, bad_escape, end, before, behind_escape, ahead}
-use Rattle.capture.specs.Looking.{Stuck, Unescapes}
+use Rattle.line.specs.Escapes.{StandsAt, NothingAt}
+use Rattle.line.specs.Escapes.StandsAt.{plain, escaped}
+use Rattle.line.specs.Escapes.NothingAt.{ended, cut, bad, start as start_there}
+use Rattle.capture.specs.Looking.{Stuck}
 
 -- ---- bytes looked for in two parts
 -- behind unescaped bytes vs, w bytes on the line
@@ -93,29 +94,7 @@ more_stuck n end h = refl
 pub ahead_stuck : (n : ℕ) (bs : List ℕ) → Stuck (ahead 1 bs) → ahead (1 + n) bs ≡ ahead 1 bs
 ahead_stuck n bs h = ahead_more 1 n bs ∙ more_stuck n (ahead 1 bs) h
 
--- ---- the byte behind a 5C, by one product
-xor_pos : (a b : ℕ) → (a ≡ b → ⊥) → 0 < bit_xor a b
-xor_pos a b n =
-    let h : bit_xor a b ≡ 0 → ⊥ = λ z. n (sym (xor_twice a b) ∙ ap (λ (x : ℕ). bit_xor x b) z) in
-    omega arith
-
-pub one_of_two : (e : ℕ) → eqb (bit_xor e 0x3E * bit_xor e 0x1C) 0 ≡ (eqb e 0x3E || eqb e 0x1C)
-one_of_two e = go (eqb e 0x3E) (eqb e 0x1C) refl refl
-  where
-    go : (x y : Bool) → eqb e 0x3E ≡ x → eqb e 0x1C ≡ y → eqb (bit_xor e 0x3E * bit_xor e 0x1C) 0 ≡ (x || y)
-    go true y p q = ap (λ (k : ℕ). eqb (bit_xor k 0x3E * bit_xor k 0x1C) 0) (eqb-true e 0x3E p)
-    go false true p q = ap (λ (k : ℕ). eqb (bit_xor k 0x3E * bit_xor k 0x1C) 0) (eqb-true e 0x1C q)
-    go false false p q =
-        let z : 0 < bit_xor e 0x3E * bit_xor e 0x1C = mul-pos (xor_pos e 0x3E (eqb-false _ _ p)) (xor_pos e 0x1C (eqb-false _ _ q)) in
-        ne_eqb _ _ (let k : bit_xor e 0x3E * bit_xor e 0x1C ≡ 0 → ⊥ = omega arith in k)
-
 -- ---- the first unescaped byte at an offset of a capture
-pub some_there : {s : List ℕ} {at v w : ℕ} → ahead 1 (drop at s) ≡ whole w (v ∷ []) (drop (at + w) s) → (w ≡ 0 → ⊥) → Unescapes s at v w
-some_there e n = record { some = λ k. e; none = λ z. absurd (n z) }
-
-pub none_there : {s : List ℕ} {at v : ℕ} {a : Ahead} → ahead 1 (drop at s) ≡ a → Stuck a → Unescapes s at v 0
-none_there e h = record { some = λ k. absurd (k refl); none = λ z. subst Stuck (sym e) h }
-
 module _ (s : List ℕ) (at : ℕ) where
   abbrev x : ℕ
   x = get_or s at 0
@@ -190,3 +169,14 @@ module _ (s : List ℕ) (at : ℕ) where
       go : (t : Bool) → (eqb y 0x3E || eqb y 0x1C) ≡ t → ahead 1 (drop at s) ≡ bad_escape 2
       go true f = absurd (subst Stuck (escape_byte_lem below e f) h)
       go false f = escape_bad below e f n
+
+-- one that stands there, and none
+pub stands_ahead : (s : List ℕ) (at byte width : ℕ) → StandsAt s at byte width → ahead 1 (drop at s) ≡ whole width (byte ∷ []) (drop (at + width) s)
+stands_ahead s at byte width (plain below w b p q) = rw (w, b) (first_plain s at below p q)
+stands_ahead s at byte width (escaped below w b e t) = rw (w, b) (escape_byte_lem s at below e t)
+
+pub nothing_stuck : (s : List ℕ) (at : ℕ) → NothingAt s at → Stuck (ahead 1 (drop at s))
+nothing_stuck s at (ended h) = subst Stuck (sym (first_end s at h)) tt
+nothing_stuck s at (start_there below e) = subst Stuck (sym (first_start s at below e)) tt
+nothing_stuck s at (cut below e h) = subst Stuck (sym (escape_end s at below e h)) tt
+nothing_stuck s at (bad below e t) = escape_stuck s at below e t

@@ -1,5 +1,5 @@
 -- How the code looks ahead: what its own functions promise. None of it is needed to read the promises of the public ones.
-use Rattle.std.specs.Prelude.{ℕ, ◌+◌, ◌-◌, ◌≤◌, ◌<◌, ◌≡◌, List, [], ◌∷◌, ◌++◌, map, length, take, drop, get_or}
+use Rattle.std.specs.Prelude.{ℕ, ◌+◌, ◌-◌, ◌≤◌, ◌<◌, ◌≡◌, List, [], ◌++◌, map, length, take, drop, get_or}
 use Rattle.std.proofs.lemmas.List.Edits.{sets}
 use Rattle.line.specs.Receive.{frame_payload}
 use Rattle.line.specs.Line.{Emitted, emitted, Limits}
@@ -35,11 +35,6 @@ Stuck (whole n vs rest) = ⊥
 Stuck (start n) = Unit {0}
 Stuck (bad_escape n) = Unit {0}
 Stuck end = Unit {0}
-
--- the unescaped byte v at an offset, w bytes on the line; 0 where there is none
-pub record Unescapes (s : List ℕ) (at v w : ℕ) : Type 0 where
-  pub some : (w ≡ 0 → ⊥) → ahead 1 (drop at s) ≡ whole w (v ∷ []) (drop (at + w) s)
-  pub none : w ≡ 0 → Stuck (ahead 1 (drop at s))
 
 -- the unescaped bytes between two offsets are the first `got` of the store
 pub record Holds (s : List ℕ) (from got at : ℕ) (store : List ℕ) : Type 0 where

@@ -4,10 +4,9 @@ ghost use Rattle.std.proofs.lemmas.List.Edits.{sets};
 ghost use Rattle.line.specs.Line.{emitted};
 ghost use Rattle.capture.specs.Ahead.{ahead};
 ghost use Rattle.capture.specs.Capture as specs;
-ghost use Rattle.capture.specs.Looking.{NoneIn, StartFrom, Stuck, Unescapes, Takes, Continues, no_event, refusal_at, stopped, NextIs, Looks};
+ghost use Rattle.capture.specs.Looking.{NoneIn, StartFrom, Stuck, Takes, Continues, no_event, refusal_at, stopped, NextIs, Looks};
 
 use line::Event;
-use wire::Part;
 
 // An event, the offset of its start byte, and where to go on; where there is no event, that is the end of the capture.
 #[derive(Clone, Copy)]
@@ -23,31 +22,13 @@ fn any_of(s: &[u8], from: usize, a: u8, b: u8) -> bool
     ensures { result ≡ false → NoneIn s.now from (from + 16) a b }
 {
     let mut any = false;
-    let mut k: usize = 0;
-    while k < 16 {
-        let x = s[from + k];
-        any = any | (x == a) | (x == b);
-        k += 1;
+    for x in &s[from..from + 16] {
+        any |= (*x == a) | (*x == b);
     }
     any
 }
 
-// The first start byte from an offset on, byte by byte; the end where there is none.
-fn first_start(s: &[u8], from: usize) -> usize
-    requires { from ≤ length s.now }
-    ensures { StartFrom s.now from result }
-{
-    let mut i = from;
-    while i < s.len() {
-        if s[i] == 0x7E {
-            return i;
-        }
-        i += 1;
-    }
-    i
-}
-
-// The same, 16 bytes at a time where there is none among them.
+// The first start byte from an offset on, the end where there is none: 16 bytes at a time where it is not among them.
 fn next_start(s: &[u8], from: usize) -> usize
     requires { from < length s.now }
     ensures { StartFrom s.now from result }
@@ -58,53 +39,11 @@ fn next_start(s: &[u8], from: usize) -> usize
     let mut i = from;
     while 16 <= s.len() - i {
         if any_of(s, i, 0x7E, 0x7E) {
-            return first_start(s, i);
+            return line::first_start(s, i);
         }
         i += 16;
     }
-    first_start(s, i)
-}
-
-// An unescaped byte, and how many bytes it is on the line: 0 where no unescaped byte is found.
-#[derive(Clone, Copy)]
-struct Unescaped {
-    byte: u8,
-    width: usize,
-}
-
-// Whether a byte behind 5C stands for another: 3E or 1C. One product for both, since which of the two comes cannot be foretold.
-fn stands_for_byte(e: u8) -> bool
-    ensures { result ≡ (eqb e 0x3E || eqb e 0x1C) }
-{
-    wire::wide(e ^ 0x3E) * wire::wide(e ^ 0x1C) == 0
-}
-
-// The unescaped byte at an offset.
-fn unescape_at(s: &[u8], at: usize) -> Unescaped
-    ensures { Unescapes s.now at result.byte result.width }
-{
-    if s.len() <= at {
-        return Unescaped { byte: 0, width: 0 };
-    }
-    let b = s[at];
-    if b == 0x7E {
-        return Unescaped { byte: 0, width: 0 };
-    }
-    if b != 0x5C {
-        return Unescaped { byte: b, width: 1 };
-    }
-    let next = at + 1;
-    if s.len() <= next {
-        return Unescaped { byte: 0, width: 0 };
-    }
-    let e = s[next];
-    if stands_for_byte(e) {
-        return Unescaped {
-            byte: e ^ 0x40,
-            width: 2,
-        };
-    }
-    Unescaped { byte: 0, width: 0 }
+    line::first_start(s, i)
 }
 
 // How many unescaped bytes stand at the front of the store, and the offset behind the last.
@@ -119,18 +58,15 @@ fn one_by_one(s: &[u8], had: Taken, most: usize, store: &mut [u8]) -> Taken
     requires { (had.got ≤ most) × (most ≤ length store.old) × (had.at ≤ length s.now) }
     ensures { Takes s.now had.got had.at most store.old result.got result.at store.new }
 {
-    let mut got = had.got;
     let mut at = had.at;
-    while got < most {
-        let u = unescape_at(s, at);
-        if u.width == 0 {
+    for got in had.got..most {
+        let Some(u) = line::unescape_at(s, at) else {
             return Taken { got, at };
-        }
+        };
         store[got] = u.byte;
-        got += 1;
         at += u.width;
     }
-    Taken { got, at }
+    Taken { got: most, at }
 }
 
 // Whether the next 16 bytes are there and stand for themselves.
@@ -138,10 +74,7 @@ fn sixteen_plain(s: &[u8], from: usize) -> bool
     requires { from ≤ length s.now }
     ensures { result ≡ true → (from + 16 ≤ length s.now) × NoneIn s.now from (from + 16) 0x7E 0x5C }
 {
-    if s.len() - from < 16 {
-        return false;
-    }
-    !any_of(s, from, 0x7E, 0x5C)
+    16 <= s.len() - from && !any_of(s, from, 0x7E, 0x5C)
 }
 
 // 16 bytes, copied into the store.
@@ -149,14 +82,7 @@ fn copy_sixteen(s: &[u8], from: usize, store: &mut [u8], to: usize)
     requires { (from + 16 ≤ length s.now) × (to + 16 ≤ length store.old) }
     ensures { store.new ≡ sets store.old to (take 16 (drop from s.now)) }
 {
-    let bytes = wire::part_of(
-        s,
-        Part {
-            start: from,
-            len: 16,
-        },
-    );
-    wire::store(bytes, to, store);
+    store[to..to + 16].copy_from_slice(&s[from..from + 16]);
 }
 
 // Some more: 16 at once where they stand for themselves, else up to 16 byte by byte.
@@ -183,6 +109,7 @@ fn unescape(s: &[u8], from: usize, n: usize, store: &mut [u8]) -> Taken
     ensures { Takes s.now 0 from n store.old result.got result.at store.new }
 {
     let mut t = Taken { got: 0, at: from };
+    // No `for`: a turn takes 1 to 16 of them.
     while t.got < n {
         let more = take_some(s, t, n, store);
         if more.got == t.got {
@@ -248,8 +175,7 @@ fn checked(store: &[u8; 512], size: usize, offset: usize, behind: usize) -> Next
         × (result.offset ≡ offset) × (result.next ≡ behind) }
 {
     let at = size - 2;
-    let covered = wire::part_of(store, Part { start: 0, len: at });
-    if crc::crc(covered) != wire::read_u16(store, at) {
+    if crc::crc(&store[..at]) != wire::read_u16(store, at) {
         return refused(4, offset, behind, behind);
     }
     NextEvent {
@@ -269,10 +195,7 @@ fn sized(s: &[u8], offset: usize, size: usize, at: usize, store: &mut [u8; 512])
     requires { (offset < at) × (at ≤ length s.now) }
     ensures { NextIs s.now offset at (specs.sized size (at - offset) (drop at s.now)) result store.new }
 {
-    if size < 5 {
-        return refused(3, offset, at, at);
-    }
-    if 512 < size {
+    if size < 5 || 512 < size {
         return refused(3, offset, at, at);
     }
     let t = unescape(s, at, size, store);
@@ -288,17 +211,15 @@ fn behind_start(s: &[u8], offset: usize, store: &mut [u8; 512]) -> NextEvent
     ensures { NextIs s.now offset (offset + 1) (specs.behind_start (drop (offset + 1) s.now)) result store.new }
 {
     let at = offset + 1;
-    let low = unescape_at(s, at);
-    if low.width == 0 {
+    let Some(low) = line::unescape_at(s, at) else {
         return broken(s, offset, at);
-    }
+    };
     let next = at + low.width;
-    let high = unescape_at(s, next);
-    if high.width == 0 {
+    let Some(high) = line::unescape_at(s, next) else {
         return broken(s, offset, next);
-    }
-    let size = wire::wide(low.byte) + 256 * wire::wide(high.byte);
-    sized(s, offset, size, next + high.width, store)
+    };
+    let size = u16::from_le_bytes([low.byte, high.byte]);
+    sized(s, offset, usize::from(size), next + high.width, store)
 }
 
 // The next event from an offset on.

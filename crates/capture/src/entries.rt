@@ -1,4 +1,4 @@
-// Entries of the lent list: an event and the offset of its start byte as one number, and back.
+// Entries of the lent list: an event and the offset of its start byte as one number, and back. The C interface lends the list as 64-bit numbers.
 ghost use Rattle.std.specs.Prelude.{◌≡◌, ◌∷◌, [], ◌≤◌, ◌<◌, length, take};
 ghost use Rattle.capture.specs.Entry as specs;
 
@@ -30,29 +30,24 @@ pub(crate) fn frame(major: u8, minor: u8, wrapper: u8, len: u16, offset: u16) ->
 }
 
 // The event of an entry; none where its kind is neither a refusal's number nor a frame's.
+#[tactic(auto, using(crate::proofs::Packing::frame_event, crate::proofs::Packing::low_event, crate::proofs::Packing::high_event, crate::proofs::Packing::refusal_event))]
 pub fn event_of(entry: u64) -> Event
     ensures { result ≡ specs.event_of entry }
 {
     let bytes = wire::u64_bytes(entry);
-    let kind = bytes[0];
-    let count = wire::read_u16(&bytes, 1) as usize;
-    if kind == 5 {
-        return Event::Frame {
+    let count = usize::from(wire::read_u16(&bytes, 1));
+    match bytes[0] {
+        5 => Event::Frame {
             major: bytes[3],
             minor: bytes[4],
             wrapper: bytes[5],
             len: count,
-        };
-    }
-    if kind < 1 {
-        return Event::Nothing;
-    }
-    if 4 < kind {
-        return Event::Nothing;
-    }
-    Event::Refused {
-        number: kind,
-        place: count,
+        },
+        number @ 1..=4 => Event::Refused {
+            number,
+            place: count,
+        },
+        _ => Event::Nothing,
     }
 }
 
@@ -61,7 +56,7 @@ pub fn offset_of(entry: u64) -> usize
     ensures { result ≡ specs.offset_of entry }
 {
     let bytes = wire::u64_bytes(entry);
-    wire::read_u16(&bytes, 6) as usize
+    usize::from(wire::read_u16(&bytes, 6))
 }
 
 // How long an event's payload is.
@@ -69,17 +64,8 @@ pub(crate) fn payload_length(e: Event) -> usize
     ensures { result ≡ specs.payload_length e }
 {
     match e {
-        Event::Nothing => 0,
-        Event::Frame {
-            major: _,
-            minor: _,
-            wrapper: _,
-            len,
-        } => len,
-        Event::Refused {
-            number: _,
-            place: _,
-        } => 0,
+        Event::Frame { len, .. } => len,
+        Event::Nothing | Event::Refused { .. } => 0,
     }
 }
 
@@ -91,15 +77,14 @@ pub fn length_of(entry: u64) -> usize
 }
 
 // The payload bytes of the first `n` entries.
+#[tactic(auto, using(crate::proofs::Packing::total_next), unfolding(crate::specs::Entry::payload_total))]
 fn payload_total(list: &[u64], n: usize) -> usize
     requires { (n ≤ length list.now) × (n ≤ 65536) }
     ensures { result ≡ specs.payload_total (take n list.now) }
 {
-    let mut total: usize = 0;
-    let mut i: usize = 0;
-    while i < n {
-        total += length_of(list[i]);
-        i += 1;
+    let mut total = 0;
+    for entry in &list[..n] {
+        total += length_of(*entry);
     }
     total
 }

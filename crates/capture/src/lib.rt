@@ -33,16 +33,7 @@ fn events_in(e: Event) -> usize
 {
     match e {
         Event::Nothing => 0,
-        Event::Frame {
-            major: _,
-            minor: _,
-            wrapper: _,
-            len: _,
-        } => 1,
-        Event::Refused {
-            number: _,
-            place: _,
-        } => 1,
+        Event::Frame { .. } | Event::Refused { .. } => 1,
     }
 }
 
@@ -97,20 +88,16 @@ fn put(
 }
 
 // Whether the lent list or buffer is shorter than the answer. Where both are as long as the capture they suffice, and nothing is counted.
+#[tactic(auto, using(crate::proofs::Rooms::rooms_suffice))]
 fn short_of_room(s: &[u8], list: usize, buffer: usize) -> bool
     requires { length s.now ≤ 65536 }
     ensures { result ≡ (ltb list (length (entries_of s.now)) || ltb buffer (length (payloads_of s.now))) }
 {
-    if s.len() <= list {
-        if s.len() <= buffer {
-            return false;
-        }
+    if s.len() <= list && s.len() <= buffer {
+        return false;
     }
     let c = count(s);
-    if list < c.entries {
-        return true;
-    }
-    buffer < c.bytes
+    list < c.entries || buffer < c.bytes
 }
 
 // The entries of a capture and its payloads, at the front of a list and a buffer with room for them.

@@ -23,7 +23,7 @@ fn front(s: &[u8], n: usize) -> &[u8] {
 fn event(out: &mut [u8], at: usize, offset: usize, e: Event, payload: &[u8]) -> usize {
     let named = text::named(out, at, b"; ", offset as u64);
     let behind = listing::event_numbers(out, named, e);
-    if payload.len() == 0 {
+    if payload.is_empty() {
         return behind;
     }
     let space = text::put(out, behind, b" ");
@@ -44,14 +44,9 @@ fn entry_event(out: &mut [u8], at: usize, entry: u64, payload: &[u8]) -> usize {
 // The first eight events, as a caller reads them.
 fn events(out: &mut [u8], at: usize, list: &[u64], buffer: &[u8]) -> usize {
     let mut behind = at;
-    let mut k: usize = 0;
-    while k < 8 {
-        if list.len() <= k {
-            return behind;
-        }
+    for (k, entry) in list.iter().take(8).enumerate() {
         let part = capture::payload_part(list, k);
-        behind = entry_event(out, behind, list[k], wire::part_of(buffer, part));
-        k += 1;
+        behind = entry_event(out, behind, *entry, wire::part_of(buffer, part));
     }
     behind
 }
@@ -76,26 +71,25 @@ fn compare(
     requires { c.bytes < 4294967296 }
     ensures { result.bytes ≤ c.bytes + 65535 }
 {
-    let k = c.entries;
+    let Some(entry) = list.get(c.entries) else {
+        return Compared { same: false, ..c };
+    };
     let start = c.bytes;
-    if list.len() <= k {
-        return Compared {
-            entries: k,
-            bytes: start,
-            same: false,
-        };
-    }
-    let entry = list[k];
+    let len = capture::length_of(*entry);
     let mut a = [0u8; 2048];
     let n = event(&mut a, 0, offset, e, payload);
     let mut b = [0u8; 2048];
-    let len = capture::length_of(entry);
-    let m = entry_event(&mut b, 0, entry, wire::part_of(buffer, Part { start, len }));
+    let m = entry_event(
+        &mut b,
+        0,
+        *entry,
+        wire::part_of(buffer, Part { start, len }),
+    );
     let same = check::same(front(&a, n), front(&b, m));
     Compared {
-        entries: k + 1,
+        entries: c.entries + 1,
         bytes: start + len,
-        same: c.same & same,
+        same: c.same && same,
     }
 }
 
@@ -113,22 +107,11 @@ fn compare_any(
 {
     match e {
         Event::Nothing => c,
-        Event::Frame {
-            major: _,
-            minor: _,
-            wrapper: _,
-            len,
-        } => compare(c, offset, e, line::frame_payload(store, len), list, buffer),
-        Event::Refused {
-            number: _,
-            place: _,
-        } => compare(c, offset, e, b"", list, buffer),
+        Event::Frame { len, .. } => {
+            compare(c, offset, e, line::frame_payload(store, len), list, buffer)
+        }
+        Event::Refused { .. } => compare(c, offset, e, b"", list, buffer),
     }
-}
-
-// The offset of a frame's start byte, so many bytes before a byte of it.
-fn back(i: usize, count: usize) -> usize {
-    if count <= i { i - count } else { 0 }
 }
 
 // Whether the receiver, fed byte by byte from fresh, hands out what the entries say.
@@ -141,19 +124,14 @@ fn receiver_same(s: &[u8], list: &[u64], buffer: &[u8]) -> bool
         bytes: 0,
         same: true,
     };
-    let mut i: usize = 0;
-    while i < s.len() {
-        let p = receiver.progress;
-        let t = receiver.step(s[i]);
-        let next = t.receiver;
-        receiver = next;
-        let store = receiver.store;
-        let e = t.event;
-        let after = compare_any(c, back(i, p.count), e, &store, list, buffer);
-        c = after;
-        i += 1;
+    for (i, b) in s.iter().enumerate() {
+        // The frame's start byte stands so many bytes before this one.
+        let offset = i.saturating_sub(receiver.progress.count);
+        let t = receiver.step(*b);
+        receiver = t.receiver;
+        c = compare_any(c, offset, t.event, &receiver.store, list, buffer);
     }
-    c.same & (c.entries == list.len())
+    c.same && c.entries == list.len()
 }
 
 // Room for the lister's lines: at most 12 bytes for each of a capture's.
@@ -165,11 +143,9 @@ fn lines_room() -> [u8; 786500]
 
 // The lister's lines of the entries' events.
 fn lines(out: &mut [u8], list: &[u64]) -> usize {
-    let mut at: usize = 0;
-    let mut k: usize = 0;
-    while k < list.len() {
-        at = listing::event_line(out, at, capture::event_of(list[k]));
-        k += 1;
+    let mut at = 0;
+    for entry in list {
+        at = listing::event_line(out, at, capture::event_of(*entry));
     }
     at
 }
@@ -188,9 +164,10 @@ fn lister_same(s: &[u8], list: &[u64]) -> bool {
 fn verdict(out: &mut [u8], at: usize, name: &[u8], same: bool) -> usize {
     let behind = text::put(out, at, name);
     if same {
-        return text::put(out, behind, b" same");
+        text::put(out, behind, b" same")
+    } else {
+        text::put(out, behind, b" differs")
     }
-    text::put(out, behind, b" differs")
 }
 
 // Whether receiver and lister say what the entries do.
@@ -205,31 +182,23 @@ fn verdicts(out: &mut [u8], at: usize, s: &[u8], list: &[u64], buffer: &[u8]) ->
 // The entries of a list, one by one.
 fn entry_bytes(out: &mut [u8], at: usize, list: &[u64]) -> usize {
     let mut behind = at;
-    let mut i: usize = 0;
-    while i < list.len() {
-        let bytes = wire::u64_bytes(list[i]);
+    for entry in list {
         let space = text::put(out, behind, b" ");
-        behind = text::hex(out, space, &bytes);
-        i += 1;
+        behind = text::hex(out, space, &entry.to_le_bytes());
     }
     behind
 }
 
 fn list_crc(list: &[u64]) -> u16 {
-    let mut crc: u16 = 0xFFFF;
-    let mut i: usize = 0;
-    while i < list.len() {
-        let bytes = wire::u64_bytes(list[i]);
-        crc = crc::crc_from(crc, &bytes);
-        i += 1;
-    }
-    crc
+    list.iter().fold(
+        0xFFFF,
+        |crc, entry| crc::crc_from(crc, &entry.to_le_bytes()),
+    )
 }
 
 fn crc_text(out: &mut [u8], at: usize, crc: u16) -> usize {
-    let bytes = wire::u16_bytes(crc);
     let behind = text::put(out, at, b" CRC ");
-    text::hex(out, behind, &bytes)
+    text::hex(out, behind, &crc.to_le_bytes())
 }
 
 fn list_text(out: &mut [u8], at: usize, list: &[u64]) -> usize {
@@ -257,10 +226,7 @@ fn rooms(out: &mut [u8], at: usize, list: &[u64], buffer: &[u8]) -> usize {
 
 // The first entries of a list; all of them where there are fewer.
 fn first(list: &[u64], n: usize) -> &[u64] {
-    if list.len() < n {
-        return list;
-    }
-    &list[..n]
+    &list[..n.min(list.len())]
 }
 
 // What the decoder answered and left, and whether receiver and lister say the same.
@@ -337,11 +303,8 @@ fn main(rt: HostRuntime) -> io::Result<()> {
 }
 
 fn cases<R: Print>(rt: &R, s: &[u8]) -> io::Result<()> {
-    let n = reading::count(s, b'\n');
-    let mut k: usize = 0;
-    while k < n {
+    for k in 0..reading::count(s, b'\n') {
         case(rt, reading::field(s, b'\n', k))?;
-        k += 1;
     }
     Ok(())
 }

@@ -11,36 +11,32 @@ use std::io;
 use wire::Part;
 
 // Behind a refusal's number and place, when it is given: the words of document 01's table.
+#[tactic(auto, using(text::proofs::Puts::puts_none), unfolding(crate::specs::Decoding::reason))]
 fn reason(out: &mut [u8], at: usize, number: u8) -> usize
     ensures { Puts (specs.reason number) at out.old result out.new }
 {
-    if number == 1 {
-        return text::put(out, at, b": 7E inside an unfinished frame");
+    match number {
+        1 => text::put(out, at, b": 7E inside an unfinished frame"),
+        2 => text::put(out, at, b": 5C followed by other than 3E, 1C or 7E"),
+        3 => text::put(out, at, b": size below 5 or above 512"),
+        4 => text::put(out, at, b": CRC differs"),
+        _ => at,
     }
-    if number == 2 {
-        return text::put(out, at, b": 5C followed by other than 3E, 1C or 7E");
-    }
-    if number == 3 {
-        return text::put(out, at, b": size below 5 or above 512");
-    }
-    if number == 4 {
-        return text::put(out, at, b": CRC differs");
-    }
-    at
 }
 
 // Behind a frame's type and length: its payload in base 16, or the first 32 bytes of it and `..`.
+#[tactic(auto, using(text::proofs::Puts::puts_none, text::proofs::Puts::puts_then), unfolding(crate::specs::Decoding::payload_text))]
 fn payload_text(out: &mut [u8], at: usize, payload: &[u8]) -> usize
     ensures { Puts (specs.payload_text payload.now) at out.old result out.new }
 {
-    if payload.len() == 0 {
+    if payload.is_empty() {
         return at;
     }
     let behind = text::put(out, at, b": ");
     if payload.len() <= 32 {
         return text::hex(out, behind, payload);
     }
-    let front = wire::part_of(payload, Part { start: 0, len: 32 });
+    let (front, _) = payload.split_at(32);
     let cut = text::hex(out, behind, front);
     text::put(out, cut, b"..")
 }
@@ -51,13 +47,8 @@ fn details(out: &mut [u8], at: usize, e: Event, payload: &[u8]) -> usize
 {
     match e {
         Event::Nothing => at,
-        Event::Frame {
-            major: _,
-            minor: _,
-            wrapper: _,
-            len: _,
-        } => payload_text(out, at, payload),
-        Event::Refused { number, place: _ } => reason(out, at, number),
+        Event::Frame { .. } => payload_text(out, at, payload),
+        Event::Refused { number, .. } => reason(out, at, number),
     }
 }
 
@@ -93,14 +84,9 @@ fn print_lines<R: Print>(
     count: usize,
     payloads: &[u8],
 ) -> io::Result<()> {
-    let mut start: usize = 0;
-    let mut k: usize = 0;
-    while k < 65536 {
-        if count <= k {
-            return Ok(());
-        }
-        start = print_line(rt, list[k], payloads, start)?;
-        k += 1;
+    let mut start = 0;
+    for entry in list.iter().take(count) {
+        start = print_line(rt, *entry, payloads, start)?;
     }
     Ok(())
 }

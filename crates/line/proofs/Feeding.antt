@@ -1,23 +1,28 @@
 -- Many bytes at once are the bytes one by one. Assumes nothing.
 use mathlib.Core.Path.{◌≡◌, refl, sym, ap, ap₂, ◌∙◌, subst}
 use mathlib.Core.List.{List, [], ◌∷◌, ◌++◌}
-use mathlib.Core.Bool.{Bool, true, false, ◌||◌}
-use Prim.Native.Nat.{ℕ, suc, ◌+◌, ◌-◌, ◌≤◌, ◌<◌}
+use mathlib.Core.Bool.{Bool, true, false}
+use Prim.Native.Nat.{ℕ, zero, suc, ◌+◌, ◌-◌, ◌≤◌, ◌<◌}
 use native.Mathlib.Numerals.{add-one}
 use native.Mathlib.Omega.{arith}
 use lib.ListN.{length, take, drop, get_or, set, drop_of_length-le, take-append-drop}
 use lib.Seq.{drop-cons, drop-drop, take-nil}
 use lib.Dec.{eqb, ltb}
-use borrow.Author.Tests.{ne_eqb, eqb-false, ltb-false}
+use lib.Bits.{bit_xor}
+use borrow.Author.Tests.{ne_eqb, eqb-true, ltb-true, ltb-false}
 use Rattle.wire.specs.Choice.{pick}
-use Rattle.wire.proofs.Choice.{pick_all, true_false, or_fails}
+use Rattle.wire.proofs.Choice.{pick_all, true_false}
 use Rattle.line.specs.Receive.{busy, reading, holding, step_to, step_of}
 use Rattle.line.specs.Moves.{move_of, taken_move, keep, store_after, event_of, ActsOn}
 use Rattle.line.specs.Feed.{Fed, fed, fed_to, silent, Feeds, Skips, CountBounded, Unescapes, Passes}
 use Rattle.line.specs.Line.{Emitted, emitted, run, after}
 use Rattle.line.proofs.Gives.{step_gives}
 use Rattle.line.proofs.Run.{run_one, run_append}
-use Rattle.line.proofs.Moves.{busy_counts, stepped, taken_more, move_plain, move_mark}
+use Rattle.line.proofs.Moves.{busy_counts, stepped, taken_more, move_plain, move_mark, move_3_e, move_1_c}
+use Rattle.std.proofs.lemmas.Bool.{or_cases}
+use Rattle.std.proofs.Common.{◌⊎◌, inl, inr}
+use Rattle.line.specs.Escapes.{StandsAt, FirstStart, stands_for_byte}
+use Rattle.line.specs.Escapes.StandsAt.{plain, escaped}
 use Rattle.line.specs.declared.Action.TheVariants.{Put}
 use Rattle.line.specs.declared.Progress.{Progress}
 use Rattle.line.specs.declared.Move.{Move}
@@ -95,11 +100,32 @@ module _ (low got size count : ℕ) (h2 : 2 ≤ got) (h5 : 5 ≤ size) (h512 : s
             ∙ ap (λ (n : ℕ). fed n (drop n s) (holding (next 2) (set st (got - 2) v))) k;
       }
 
--- a byte that is not left to the step
-pub stays : (w got size : ℕ) {r : Bool} → r ≡ (eqb w 0 || ltb size got) → r ≡ false → (w ≡ 0 → ⊥) × (got ≤ size)
-stays w got size e h =
-    let o = or_fails (eqb w 0) (ltb size got) (sym e ∙ h) in
-    (eqb-false w 0 o.0, ltb-false size got o.1)
+-- one that stands at a place
+marked : (low got size count e : ℕ) → 5 ≤ size → size ≤ 512 → got < size + 2 → CountBounded (reading false low got size count) → stands_for_byte e ≡ true
+    → move_of (reading true low got size (count + 1)) e ≡ taken_move (reading false low got size (count + 2)) (bit_xor e 0x40)
+marked low got size count e h5 h512 hg hc h = go (or_cases (eqb e 0x3E) (eqb e 0x1C) h)
+  where
+    go : (eqb e 0x3E ≡ true) ⊎ (eqb e 0x1C ≡ true) → move_of (reading true low got size (count + 1)) e ≡ taken_move (reading false low got size (count + 2)) (bit_xor e 0x40)
+    go (inl q) = rw (eqb-true e 0x3E q) (move_3_e low got size count h5 h512 hg hc)
+    go (inr q) = rw (eqb-true e 0x1C q) (move_1_c low got size count h5 h512 hg hc)
+
+pub stands_unescapes : (s : List ℕ) (at byte width : ℕ) → StandsAt s at byte width → Unescapes s at width byte
+stands_unescapes s at byte width (plain below w b p q) =
+    rw (w, b)
+    (record {
+      fits = omega arith;
+      narrow = omega arith;
+      puts = λ low got size count st h2 h5 h512 hg hc. plain_next low got size count h2 h5 h512 hg hc s st at below p q;
+    })
+stands_unescapes s at byte width (escaped below w b e t) =
+    rw (w, b)
+    (record {
+      fits = omega arith;
+      narrow = omega arith;
+      puts = λ low got size count st h2 h5 h512 hg hc.
+          escaped_next low got size count h2 h5 h512 hg hc s st at (bit_xor (get_or s (at + 1) 0) 0x40) below e
+          (marked low got size count (get_or s (at + 1) 0) h5 h512 (omega arith) hc t);
+    })
 
 -- ---- from one place to another without an event
 pub skips_none : (s : List ℕ) (i : ℕ) (r : Receiver) → Skips s i r i r
@@ -147,6 +173,20 @@ passes_next s from i below p before h st t =
           feed_next s i (holding h st) (step_to h st Nothing) below
           (stepped h (get_or s i 0) st (keep h) st Nothing (simp (ne_eqb _ _ p, t)) (record { store = refl; event = refl })) refl;
     })
+
+-- noise, up to a start byte
+passes_some : (s : List ℕ) (from k : ℕ) → from + k ≤ length s → ((i : ℕ) → from ≤ i → i < from + k → get_or s i 0 ≡ 0x7E → ⊥) → Passes s from (from + k)
+passes_some s from zero h n = let e : from + 0 ≡ from = omega arith in rw e (λ p st t. skips_none s from (holding p st))
+passes_some s from (suc k) h n =
+    let e : from + suc k ≡ from + k + 1 = omega arith in
+    rw e (passes_next s from (from + k) (omega arith) (n (from + k) (omega arith) (omega arith)) (passes_some s from k (omega arith) (λ i l u. n i l (omega arith))))
+
+pub passes_noise : {s : List ℕ} {from to : ℕ} → FirstStart s from to → Passes s from to
+passes_noise {s} {from} {to} f = go (to - from) (omega (arith, f.forward)) (ltb from to) refl
+  where
+    go : (k : ℕ) → from + k ≡ to → (t : Bool) → ltb from to ≡ t → Passes s from to
+    go k e true l = subst (Passes s from) e (passes_some s from k (omega (arith, f.within, ltb-true from to l)) (λ i a b. f.clear i a (omega arith)))
+    go k e false l = let z : from ≡ to = omega (arith, f.forward, ltb-false from to l) in subst (Passes s from) z (λ p st t. skips_none s from (holding p st))
 
 -- ---- what a feed hands out is what its bytes give one by one
 used_more : (n b : ℕ) (bs : List ℕ) (r : Receiver) → suc n ≤ (fed (suc n) bs (step_of r b).receiver).used → n < (fed n (b ∷ bs) r).used

@@ -1,3 +1,4 @@
+pub mod Escapes
 pub mod Moves
 pub mod Gives
 pub mod Run

@@ -3,3 +3,4 @@ pub mod Line
 pub mod Feed
 pub mod Moves
 pub mod Places
+pub mod Escapes

@@ -9,9 +9,8 @@
 #![tactic(auto)]
 
 ghost use Rattle.std.specs.Prelude.{◌≤◌, ◌<◌, length};
-ghost use Rattle.line.specs.Line.{Received};
 
-use line::{Event, Progress, Receiver, Step};
+use line::{Event, Progress, Receiver};
 use std::io;
 use text::reading;
 use wire::{Part, Written};
@@ -27,32 +26,13 @@ fn front(s: &[u8], n: usize) -> &[u8] {
     wire::part_of(s, Part { start: 0, len: n })
 }
 
-// The place behind the bytes that are the same as the one at a place.
-fn run_end(s: &[u8], from: usize) -> usize
-    requires { from < length s.now }
-    ensures { (from < result) × (result ≤ length s.now) }
-{
-    let b = s[from];
-    let mut i = from + 1;
-    while i < s.len() {
-        if s[i] != b {
-            return i;
-        }
-        i += 1;
-    }
-    i
-}
-
 // Bytes as ` 7e*3 5c*1`.
 fn runs(out: &mut [u8], at: usize, s: &[u8]) -> usize {
     let mut behind = at;
-    let mut i: usize = 0;
-    while i < s.len() {
-        let end = run_end(s, i);
+    for run in s.chunk_by(|a, b| a == b) {
         let space = text::put(out, behind, b" ");
-        let byte = text::hex(out, space, wire::part_of(s, Part { start: i, len: 1 }));
-        behind = text::named(out, byte, b"*", (end - i) as u64);
-        i = end;
+        let byte = text::hex(out, space, front(run, 1));
+        behind = text::named(out, byte, b"*", run.len() as u64);
     }
     behind
 }
@@ -61,58 +41,35 @@ fn runs(out: &mut [u8], at: usize, s: &[u8]) -> usize {
 fn event(out: &mut [u8], at: usize, e: Event, store: &[u8; 512]) -> usize {
     let behind = listing::event_numbers(out, at, e);
     match e {
-        Event::Nothing => behind,
-        Event::Frame {
-            major: _,
-            minor: _,
-            wrapper: _,
-            len,
-        } => runs(out, behind, line::frame_payload(store, len)),
-        Event::Refused {
-            number: _,
-            place: _,
-        } => behind,
+        Event::Frame { len, .. } => runs(out, behind, line::frame_payload(store, len)),
+        Event::Nothing | Event::Refused { .. } => behind,
     }
-}
-
-// One byte to a record behind a reference.
-fn received(mut receiver: Receiver, b: u8) -> Step
-    ensures { Received receiver b result.receiver result.event }
-{
-    let event = line::receive(&mut receiver, b);
-    Step { receiver, event }
 }
 
 // The bytes one by one.
 fn one_by_one(start: Receiver, s: &[u8], out: &mut [u8]) -> Run {
     let mut receiver = start;
-    let mut at: usize = 0;
-    let mut i: usize = 0;
-    while i < s.len() {
-        let t = received(receiver, s[i]);
-        let next = t.receiver;
-        receiver = next;
-        let store = receiver.store;
-        let e = t.event;
-        at = event(out, at, e, &store);
-        i += 1;
+    let mut at = 0;
+    for b in s {
+        let e = line::receive(&mut receiver, *b);
+        at = event(out, at, e, &receiver.store);
     }
     Run { receiver, at }
 }
 
 // The bytes of one read.
 fn one_read(start: Run, s: &[u8], out: &mut [u8]) -> Run {
-    let receiver = start.receiver;
-    let mut progress = receiver.progress;
-    let mut store = receiver.store;
+    let Receiver {
+        mut progress,
+        mut store,
+    } = start.receiver;
     let mut at = start.at;
-    let mut i: usize = 0;
+    let mut i = 0;
+    // No `for`: a turn takes the bytes up to the next event.
     while i < s.len() {
         let a = line::advance(progress, &mut store, s, i);
-        let e = a.event;
-        at = event(out, at, e, &store);
-        let after = a.progress;
-        progress = after;
+        at = event(out, at, a.event, &store);
+        progress = a.progress;
         i = a.used;
     }
     Run {
@@ -121,56 +78,40 @@ fn one_read(start: Run, s: &[u8], out: &mut [u8]) -> Run {
     }
 }
 
-fn flag(b: bool) -> u64
-    ensures { result ≤ 1 }
-{
-    if b { 1 } else { 0 }
-}
-
-// 1 where the bytes in two reads give other events or leave another record, else 0.
-fn differs(receiver: Receiver, s: &[u8], cut: usize, whole: &[u8]) -> u64
+// Whether the bytes in two reads give other events or leave another record.
+fn differs(receiver: Receiver, s: &[u8], cut: usize, whole: &[u8]) -> bool
     requires { cut ≤ length s.now }
-    ensures { result ≤ 1 }
 {
     let mut out = [0u8; 8192];
-    let rest = Part {
-        start: cut,
-        len: s.len() - cut,
-    };
-    let first = one_read(Run { receiver, at: 0 }, front(s, cut), &mut out);
-    let second = one_read(first, wire::part_of(s, rest), &mut out);
-    let after = second.receiver;
-    let n = record(&mut out, second.at, after);
-    flag(!check::same(front(&out, n), whole))
+    let (before, behind) = s.split_at(cut);
+    let first = one_read(Run { receiver, at: 0 }, before, &mut out);
+    let second = one_read(first, behind, &mut out);
+    let n = record(&mut out, second.at, second.receiver);
+    !check::same(front(&out, n), whole)
 }
 
 // How many cuts give another text than the bytes one by one: events, and the record after them; one read is a cut before the first.
 fn changed(receiver: Receiver, s: &[u8], whole: &[u8]) -> u64 {
-    let mut n: u64 = 0;
-    let mut cut: usize = 0;
-    while cut < s.len() {
-        n += differs(receiver, s, cut, whole);
-        cut += 1;
-    }
-    n
+    (0..s.len())
+        .filter(|cut| differs(receiver, s, *cut, whole))
+        .count() as u64
 }
 
 // `; record INSIDE ESCAPED LOW GOT SIZE COUNT; store` and the store's bytes.
 fn record(out: &mut [u8], at: usize, r: Receiver) -> usize {
     let p = r.progress;
     let numbers = [
-        flag(p.inside),
-        flag(p.escaped),
-        p.low as u64,
+        u64::from(p.inside),
+        u64::from(p.escaped),
+        u64::from(p.low),
         p.got as u64,
         p.size as u64,
         p.count as u64,
     ];
     let name = text::put(out, at, b"; record");
     let behind = text::decimals(out, name, &numbers);
-    let store = r.store;
     let named = text::put(out, behind, b"; store");
-    runs(out, named, &store)
+    runs(out, named, &r.store)
 }
 
 // A capture, to a record: the events, the cuts, and the record after it.
@@ -265,11 +206,8 @@ fn main(rt: HostRuntime) -> io::Result<()> {
 }
 
 fn cases<R: Print>(rt: &R, s: &[u8]) -> io::Result<()> {
-    let n = reading::count(s, b'\n');
-    let mut k: usize = 0;
-    while k < n {
+    for k in 0..reading::count(s, b'\n') {
         case(rt, reading::field(s, b'\n', k))?;
-        k += 1;
     }
     Ok(())
 }

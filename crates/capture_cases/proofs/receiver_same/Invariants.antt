@@ -1,10 +1,6 @@
--- `receiver_same` meets its contract. Assumes nothing.
-use Prim.Native.Nat.{◌≤◌, ◌-◌, ◌*◌}
-use lib.ListN.{length}
+-- `capture_cases::receiver_same` is safe: each byte of the capture brings at most 65,535 bytes of payload. Assumes nothing.
+use Prim.Native.Nat.{◌*◌, ◌≤◌}
 use Rattle.capture_cases.proofs.receiver_same.Given as goal
 
 abbrev pub invariant-loop-i : goal.invariant-loop-i
-invariant-loop-i l = (l.i ≤ length l.s) × (l.c.bytes ≤ 65535 * l.i)
-
-abbrev pub decreases-loop-i : goal.decreases-loop-i
-decreases-loop-i l = length l.s - l.i
+invariant-loop-i l = l.c.bytes ≤ 65535 * l.i

@@ -6,8 +6,8 @@ use Rattle.line.specs.Receive.{holding}
 use Rattle.line.specs.Feed.{fed}
 use Rattle.line.proofs.advance.Given as goal
 
-abbrev pub invariant-loop-i : goal.invariant-loop-i
-invariant-loop-i l = fed l.i (drop l.i l.s) (holding l.progress l.store) ≡ fed l.from (drop l.from l.s) (holding l.initial.progress l.initial.store)
+abbrev pub invariant-loop-b : goal.invariant-loop-b
+invariant-loop-b l = fed l.i (drop l.i l.s) (holding l.progress l.store) ≡ fed l.from (drop l.from l.s) (holding l.initial.progress l.initial.store)
 
-abbrev pub decreases-loop-i : goal.decreases-loop-i
-decreases-loop-i l = length l.s - l.i
+abbrev pub decreases-loop-b : goal.decreases-loop-b
+decreases-loop-b l = length l.s - l.i

@@ -2,7 +2,6 @@
 use mathlib.Core.Path.{refl, ap, ◌∙◌}
 use Prim.Native.Nat.{◌-◌}
 use borrow.Author.Rules.{rules}
-use Rattle.crc.specs.Crc.{crc_of}
 use Rattle.line.specs.Line.{emitted}
 use Rattle.capture.specs.Looking.{refusal_at}
 use Rattle.capture.specs.declared.ahead.NextEvent.{NextEvent}
@@ -19,7 +18,7 @@ returns-then-crc-read_u16 c =
     let q = c.refused.ensures in (
       ap (λ (x : NextEvent). emitted x.event s) q
           ∙ crc_differs a.size (a.behind - a.offset) s d.requires.0 d.requires.1 (search rules) b.crc.result c.read_u16.result
-          (b.crc.ensures ∙ ap crc_of b.part_of-covered.ensures) c.read_u16.ensures.0 c.if-crc-read_u16.true,
+          b.crc.ensures c.read_u16.ensures.0 c.if-crc-read_u16.true,
       ap (λ (x : NextEvent). x.offset) q,
       ap (λ (x : NextEvent). x.next) q,
     )
@@ -31,7 +30,7 @@ returns c =
     let d = b in
     let a = d.args in (
       crc_same a.size (a.behind - a.offset) a.store.now d.requires.0 d.requires.1 (search rules) b.crc.result f.read_u16.result
-          (b.crc.ensures ∙ ap crc_of b.part_of-covered.ensures) f.read_u16.ensures.0 f.if-crc-read_u16.false,
+          b.crc.ensures f.read_u16.ensures.0 f.if-crc-read_u16.false,
       refl,
       refl,
     )

@@ -6,19 +6,17 @@ use Rattle.wire.proofs.Choice.{and_false}
 use Rattle.capture.proofs.Reaching.{takes_holds}
 use Rattle.capture.proofs.NextEvents.{next_size, next_cut, next_checked}
 use Rattle.capture.proofs.ahead.sized.Goals as goal
+use Rattle.capture.proofs.ahead.sized.Goals.{then-size-lt5-via-then-size-lt5, then-size-lt5-via-else-size-lt5+then-size-gt512}
 
 pub returns-then-size-lt5 : goal.returns-then-size-lt5
 returns-then-size-lt5 c =
-    let d = c in
-    let a = d.args in
-    next_size a.s.now a.offset a.at a.size c.refused.result a.store.now d.requires.0 d.requires.1 (simp (lt-leb _ _ c.if-size-lt5.true)) c.refused.ensures
-
-pub returns-then-size-gt512 : goal.returns-then-size-gt512
-returns-then-size-gt512 c =
-    let d = c in
-    let a = d.args in
-    next_size a.s.now a.offset a.at a.size c.refused-then-size-gt512.result a.store.now d.requires.0 d.requires.1
-    (simp (lt-leb _ _ c.if-size-gt512.true) (and_false (leb 5 a.size))) c.refused-then-size-gt512.ensures
+    let a = c.args in
+    next_size a.s.now a.offset a.at a.size c.refused.result a.store.now c.requires.0 c.requires.1
+    (elim c.then-size-lt5.branch [
+      | then-size-lt5-via-then-size-lt5 w ↦ simp (lt-leb _ _ w.if-size-lt5.true)
+      | then-size-lt5-via-else-size-lt5+then-size-gt512 w ↦ simp (lt-leb _ _ w.if-size-gt512.true) (and_false (leb 5 a.size))
+    ])
+    c.refused.ensures
 
 pub broken-requires : goal.broken-requires
 broken-requires c =

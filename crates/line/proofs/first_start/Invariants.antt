@@ -1,0 +1,6 @@
+-- `first_start` meets its contract. Assumes nothing.
+use Rattle.std.proofs.Common.{◌≡◌, ℕ, ◌<◌, ◌≤◌, get_or}
+use Rattle.line.proofs.first_start.Given as goal
+
+abbrev pub invariant-loop-i : goal.invariant-loop-i
+invariant-loop-i l = (k : ℕ) → l.from ≤ k → k < l.i → get_or l.s k 0 ≡ 0x7E → ⊥
