@@ -31,6 +31,7 @@ use Rattle.bridge_laws.specs.Accepts.{is_accepted, is_command, AcceptsBlocks, Ac
 use Rattle.bridge.proofs.Commands.{packet_whole}
 use Rattle.bridge.specs.declared.Context.{Context}
 use Rattle.bridge.specs.declared.Link.{Link}
+use Rattle.std.specs.Prelude.{is_some}
 
 or_holds : (a b : Bool) → (a || b) ≡ true → (a ≡ true) ⊎ (b ≡ true)
 or_holds true b e = inl refl
@@ -78,7 +79,7 @@ module _ (g : Context) (p : List ℕ) where
         let z = none_append (late_rules t) (message_rules Encrypted g.required g.mode (message_in t)) x.1 in
         let s = held (session_rules g p) (tt, (tt, (tt, (tt, tt)))) y.1 in
         let h = held (late_rules t) (tt, (tt, tt)) z.0 in
-        let k = or_fails (not (eqb (get_or p 3 0) 0)) (not (admin_key g).held) s.0 in
+        let k = or_fails (not (eqb (get_or p 3 0) 0)) (not (is_some (admin_key g))) s.0 in
         let o = or_fails (ltb (message_size t) 2) (not_least t (6 + message_size t)) h.1.0 in
         record {
           blocks = blocks_accepts p room y.0;

@@ -5,7 +5,7 @@ use Prim.Native.Nat.{ℕ}
 use lib.ListN.{length}
 use Rattle.access.specs.Level.{level_number}
 use Rattle.access.specs.declared.Level.{Level}
-use Rattle.session.specs.Keys.{key_for}
+use Rattle.session.specs.Keys.{key_for, key_bytes}
 use Rattle.session.specs.Session.{connection_there, with_data}
 use Rattle.session.specs.declared.Connection.{Connection}
 use Rattle.session.proofs.Kept.{data_there}
@@ -28,7 +28,7 @@ module _ (k : Link) (level : Level) (nonce validation pn packet : List ℕ) (h :
   opens_connected =
       record {
         connection = connection_is;
-        sealed = ap (λ (c : Connection). characteristic_image (key_for k.keys k.mode level).bytes pn c.nonce (level_number level) c.validation packet) (sym connection_is);
+        sealed = ap (λ (c : Connection). characteristic_image (key_bytes (key_for k.keys k.mode level)) pn c.nonce (level_number level) c.validation packet) (sym connection_is);
         opens = opens_again (link_after k (block_for k nonce validation)) level pn packet
             (record {
               key = h.key;

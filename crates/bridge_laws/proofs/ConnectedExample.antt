@@ -13,22 +13,21 @@ use Rattle.access.specs.declared.Level.TheVariants.{Member, Setup}
 use Rattle.aes.specs.Inverse.{SixteenBytes}
 use Rattle.aes.proofs.Bytes.{listed_bytes}
 use Rattle.control.specs.Control.{command_at, read_control}
-use Rattle.control.specs.declared.ControlRead.TheVariants.{Accepted}
-use Rattle.session.specs.Keys.{no_key, key_for}
+use Rattle.std.specs.Prelude.{Ok, None, is_some, Option, Some}
+use Rattle.session.specs.Keys.{no_key, key_for, key_bytes}
 use Rattle.session.specs.Memory.{limited, remembered}
 use Rattle.session.specs.Session.{memory_after, no_connection, connection_there}
-use Rattle.session.specs.declared.Key.{Key}
 use Rattle.session_data.specs.SessionData.{data_key}
 use Rattle.session_data.specs.RoundTrip.{Sized}
 use Rattle.bridge.specs.declared.Link.{Link}
 use Rattle.bridge_laws.specs.Connected.{Connectable}
 
-abbrev filled : ℕ → Key
-filled b = record { held = true; bytes = replicate 16 b }
+abbrev filled : ℕ → Option (List ℕ)
+filled b = Some (replicate 16 b)
 
 -- without a connection session
 abbrev link : Mode → Link
-link mode = record { connection = no_connection; keys = record { admin = no_key; member = filled 1; basic = filled 2; setup = filled 3 }; mode = mode }
+link mode = record { connection = no_connection; keys = record { admin = None; member = filled 1; basic = filled 2; setup = filled 3 }; mode = mode }
 
 abbrev nonce : List ℕ
 nonce = 1 ∷ 2 ∷ 3 ∷ 4 ∷ 5 ∷ []
@@ -43,8 +42,8 @@ sized = record { five = refl; four = refl; nonce_is_bytes = listed_bytes nonce 0
 abbrev packet : List ℕ
 packet = 5 ∷ 20 ∷ 0 ∷ 1 ∷ 0 ∷ 100 ∷ []
 
-supposed : (mode : Mode) (level : Level) → (data_key (link mode).keys mode).held ≡ true → SixteenBytes (data_key (link mode).keys mode).bytes
-    → (key_for (link mode).keys mode level).held ≡ true → read_control packet mode (Keyed level) ≡ Accepted (command_at packet)
+supposed : (mode : Mode) (level : Level) → is_some (data_key (link mode).keys mode) ≡ true → SixteenBytes (key_bytes (data_key (link mode).keys mode))
+    → is_some (key_for (link mode).keys mode level) ≡ true → read_control packet mode (Keyed level) ≡ Ok (command_at packet)
     → Connectable (link mode) level nonce validation (7 ∷ 8 ∷ 9 ∷ []) packet
 unfolding connection_there memory_after limited remembered
 supposed mode level d b k r = record { data_key_there = d; data_bytes = b; sized = sized; key = k; differs = refl; three = refl; most = omega arith; read = r }

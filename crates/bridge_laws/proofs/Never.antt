@@ -22,16 +22,17 @@ use Rattle.session.specs.Keys.{key_for}
 use Rattle.session.specs.declared.Keys.{Keys}
 use Rattle.envelope.specs.Sealed.{late_rules, message_in}
 use Rattle.envelope.specs.Characteristic.{characteristic_rules}
-use Rattle.bridge.specs.Content.{refusal_number, command_refusal_number}
+use Rattle.bridge.specs.Content.{refusal_number}
 use Rattle.bridge.specs.Opener.{admin_key, head_rules, plain_rules, session_rules, uart_entry_rules, uart_text, uart_text_rules, uart_open_rules, accepted_message, answer_of, opened}
 use Rattle.bridge.specs.Opening.{refused_answer, refused_command}
 use Rattle.bridge.specs.Characteristic.{connection_rules, packet_entry_rules, packet_text, packet_text_rules, packet_open_rules, accepted_command, characteristic_answer_of, characteristic_opened}
 use Rattle.bridge.specs.declared.Context.{Context}
 use Rattle.bridge.specs.declared.Link.{Link}
+use Rattle.std.specs.Prelude.{is_some}
 
 -- ---- a frame: 13 and 22 never
 -- an admin key is held in normal mode only
-admin_normal : (k : Keys) (m : Mode) → (key_for k m Admin).held ≡ true → m ≡ Normal
+admin_normal : (k : Keys) (m : Mode) → is_some (key_for k m Admin) ≡ true → m ≡ Normal
 admin_normal k Normal e = refl
 admin_normal k Setup e = true_false (sym e)
 
@@ -40,7 +41,7 @@ entered_normal : (g : Context) (room : ℕ) (p : List ℕ) → first_broken (uar
 unfolding uart_entry_rules session_rules
 entered_normal g room p e =
     let h = held (uart_entry_rules g room p) (tt, (tt, (tt, (tt, (tt, (tt, tt)))))) e in
-    admin_normal g.keys g.mode (not-false _ (or_fails (not (eqb (get_or p 3 0) 0)) (not (admin_key g).held) h.1.1.0).1)
+    admin_normal g.keys g.mode (not-false _ (or_fails (not (eqb (get_or p 3 0) 0)) (not (is_some (admin_key g))) h.1.1.0).1)
 
 module _ (g : Context) (room : ℕ) (p : List ℕ) where
   plain_never : first_broken (plain_rules g p) ≡ 22 → ⊥
@@ -90,12 +91,12 @@ module _ (g : Context) (room : ℕ) (p : List ℕ) where
       rw (frame_number major wrapper) (never (uart_open_rules g room major wrapper p) 12 (rules_lack_13 major wrapper), (rules_never major wrapper, tt))
 
 -- ---- a characteristic packet: 5, 6, 9, 12 and 14 to 17 never
-pub packet_number : (k : Link) (room : ℕ) (p : List ℕ) → command_refusal_number (characteristic_opened k room p).answer ≡ first_broken (packet_open_rules k room p)
+pub packet_number : (k : Link) (room : ℕ) (p : List ℕ) → refusal_number (characteristic_opened k room p).answer ≡ first_broken (packet_open_rules k room p)
 unfolding characteristic_opened characteristic_answer_of
-packet_number k room p = number_given command_refusal_number refused_command (packet_open_rules k room p) (accepted_command (packet_text k p)) (λ n. refl) refl
+packet_number k room p = number_given refusal_number refused_command (packet_open_rules k room p) (accepted_command (packet_text k p)) (λ n. refl) refl
 
 pub packet_never : (k : Link) (room : ℕ) (p : List ℕ)
-    → NoneOf (5 ∷ 6 ∷ 9 ∷ 12 ∷ 14 ∷ 15 ∷ 16 ∷ 17 ∷ []) (command_refusal_number (characteristic_opened k room p).answer)
+    → NoneOf (5 ∷ 6 ∷ 9 ∷ 12 ∷ 14 ∷ 15 ∷ 16 ∷ 17 ∷ []) (refusal_number (characteristic_opened k room p).answer)
 unfolding packet_open_rules packet_entry_rules connection_rules packet_text_rules characteristic_rules
 packet_never k room p =
     let rules = packet_open_rules k room p in

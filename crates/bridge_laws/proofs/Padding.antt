@@ -27,6 +27,7 @@ use Rattle.bridge.specs.declared.Context.{Context}
 use Rattle.bridge_laws.specs.Accepts.{AcceptsFrame}
 use Rattle.bridge_laws.specs.Padding.{Fills, padded_with, content_given, OpensAsOurs, PermittedMessage, ComesThrough, AnyPadding}
 use Rattle.bridge_laws.proofs.Accepts.{rules_clear}
+use Rattle.session.specs.Keys.{key_bytes}
 
 -- a frame is judged before it is deciphered by its length, its fourth byte and its packet nonce
 same_entry : (g : Context) (room : ℕ) (p q : List ℕ) → length p ≡ length q → get_or p 3 0 ≡ get_or q 3 0 → nonce_number p ≡ nonce_number q
@@ -51,7 +52,7 @@ left_by_lem n xs ys t u work = rw (first_append xs ys) (go (first_broken xs) (fi
 
 module _ (g : Context) (pn m : List ℕ) (three-bytes : length pn ≡ 3) where
   abbrev key : List ℕ
-  key = (admin_key g).bytes
+  key = (key_bytes (admin_key g))
 
   abbrev sn : List ℕ
   sn = g.session.nonce

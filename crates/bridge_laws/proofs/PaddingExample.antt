@@ -12,7 +12,6 @@ use Rattle.message.specs.declared.Form.TheVariants.{Encrypted}
 use Rattle.message.proofs.Accepts.{message_accepts}
 use Rattle.session.specs.Memory.{empty_memory, limited, remembered}
 use Rattle.session.specs.Session.{session_there, valid_at}
-use Rattle.session.specs.Keys.{no_key}
 use Rattle.envelope.specs.Blocks.{blocks_in}
 use Rattle.envelope.specs.Sealed.{unpadded, sealed_with}
 use Rattle.envelope.proofs.Envelopes.{length_enveloped}
@@ -20,6 +19,8 @@ use Rattle.bridge.specs.Opener.{admin_key, work_after}
 use Rattle.bridge.specs.declared.Context.{Context}
 use Rattle.bridge_laws.specs.Padding.{Fills, padded_with, content_given, PermittedMessage, ComesThrough}
 use Rattle.bridge_laws.proofs.Padding.{any_padding}
+use Rattle.session.specs.Keys.{key_bytes}
+use Rattle.std.specs.Prelude.{Some, None}
 
 -- the session was set at 100, for one minute
 abbrev g : Context
@@ -27,7 +28,7 @@ g =
     record {
       session = record { held = true; nonce = replicate 5 1; timeout = record { 0 = 1 }; since = record { 0 = 100 }; memory = empty_memory };
       time = record { 0 = 159 };
-      keys = record { admin = record { held = true; bytes = replicate 16 1 }; member = no_key; basic = no_key; setup = no_key };
+      keys = record { admin = Some (replicate 16 1); member = None; basic = None; setup = None };
       mode = Normal;
       required = true;
     }
@@ -66,7 +67,7 @@ work = replicate 33 0xEE
 
 two_blocks : 16 * blocks_in (padded_with g pn set_state padding) ≡ 32
 unfolding sealed_with
-two_blocks = omega (arith, length_enveloped (admin_key g).bytes pn g.session.nonce 0 (unpadded set_state ++ padding) refl)
+two_blocks = omega (arith, length_enveloped (key_bytes (admin_key g)) pn g.session.nonce 0 (unpadded set_state ++ padding) refl)
 
 through : ComesThrough g pn set_state padding work
 through = (any_padding g).through pn set_state padding work refl fills permitted (omega (arith, two_blocks))

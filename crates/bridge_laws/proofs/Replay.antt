@@ -22,7 +22,7 @@ use Rattle.session.proofs.Kept.{session_there_lem, session_remembers, connection
 use Rattle.envelope.specs.Blocks.{blocks_in, wrong_length, nonce_number, used_again}
 use Rattle.envelope.specs.Sealed.{late_rules, message_in}
 use Rattle.envelope.specs.Characteristic.{characteristic_rules, packet_in}
-use Rattle.bridge.specs.Content.{refusal_number, command_refusal_number}
+use Rattle.bridge.specs.Content.{refusal_number}
 use Rattle.bridge.specs.Opener.{admin_key, head_rules, block_rules, session_rules, uart_entry_rules, uart_text, uart_text_rules, uart_open_rules, session_after, opened, uart_pass_rules}
 use Rattle.bridge.specs.Characteristic.{connection_rules, packet_entry_rules, packet_text, packet_text_rules, packet_open_rules, accepted_command, characteristic_answer_of, connection_after, characteristic_opened, packet_pass_rules, level_key, access_for}
 use Rattle.bridge.specs.Opening.{refused_answer, text_answer, text_session, sealed_answer, sealed_session, opened_as, refused_command, opened_command_as}
@@ -40,6 +40,7 @@ use Rattle.wire.proofs.Given.{passed_first}
 use Rattle.control.specs.Control.{command_rules}
 use Rattle.access.specs.Level.{level_of}
 use Rattle.bridge_laws.proofs.Never.{frame_number, packet_number}
+use Rattle.std.specs.Prelude.{is_some}
 
 -- ---- what comes of a packet nonce that is remembered
 -- 7, 25, 10, 9 and 28, by what applies before 28; no 9 on the characteristic
@@ -76,14 +77,14 @@ module _ (s : Session) (c : FrameCall) (there : session_there s ≡ true) (again
   abbrev no_room : Bool
   no_room = ltb c.room (16 * blocks_in sent)
 
-  abbrev no_key : Bool
-  no_key = not (eqb (get_or sent 3 0) 0) || not (admin_key here).held
+  abbrev key_missing : Bool
+  key_missing = not (eqb (get_or sent 3 0) 0) || not (is_some (admin_key here))
 
   abbrev no_time : Bool
   no_time = not (valid_at s c.time)
 
   abbrev number : ℕ
-  number = given (wrong_length sent) no_room no_key no_time
+  number = given (wrong_length sent) no_room key_missing no_time
 
   entry_given : number ≡ first_broken (uart_entry_rules here c.room sent)
   unfolding uart_entry_rules session_rules
@@ -93,7 +94,7 @@ module _ (s : Session) (c : FrameCall) (there : session_there s ≡ true) (again
   unfolding sealed_answer sealed_session
   frame_again =
       let entry : List Rule = uart_entry_rules here c.room sent in
-      let some = some_given (wrong_length sent) no_room no_key no_time in
+      let some = some_given (wrong_length sent) no_room key_missing no_time in
       sym (sealed_opened_lem here c.room sent)
       ∙ ap₂ opened_as (judge_stop refused_answer entry (text_answer here (uart_text here sent)) number entry_given some)
       (judge_stop (λ i. s) entry (text_session here (nonce_number sent) (uart_text here sent)) number entry_given some)
@@ -103,7 +104,7 @@ module _ (s : Session) (c : FrameCall) (there : session_there s ≡ true) (again
       let e : opened_frame s c ≡ opened_as (refused_answer number) s = ap₂ (λ (i j : ℕ). opened here c.room i j sent) major wrapper ∙ frame_again in
       record {
         never = ap (λ (r : Opened). is_accepted r.answer) e;
-        number = ap (λ (r : Opened). among (refusal_number r.answer) (7 ∷ 25 ∷ 10 ∷ 9 ∷ 28 ∷ [])) e ∙ one_of_five (wrong_length sent) no_room no_key no_time;
+        number = ap (λ (r : Opened). among (refusal_number r.answer) (7 ∷ 25 ∷ 10 ∷ 9 ∷ 28 ∷ [])) e ∙ one_of_five (wrong_length sent) no_room key_missing no_time;
         exactly = λ blocks id key valid.
             let h = held (block_rules sent c.room) (tt, (tt, tt)) (blocks_clear sent c.room blocks) in
             ap (λ (r : Opened). refusal_number r.answer) e ∙ rw (h.0, h.1.0, id, key, valid);
@@ -117,7 +118,7 @@ packet_refused c q there again =
     let p : List ℕ = q.packet in
     let a : Bool = wrong_length p in
     let b : Bool = ltb q.room (16 * blocks_in p) in
-    let d : Bool = not (level_key k p).held in
+    let d : Bool = not (is_some (level_key k p)) in
     let entry : List Rule = packet_entry_rules k q.room p in
     let late : List Rule = characteristic_rules c.validation (packet_text k p) in
     let text : List Rule = packet_text_rules k (get_or p 3 0) (packet_text k p) in
@@ -128,10 +129,10 @@ packet_refused c q there again =
     (judge_stop (λ i. c) (entry ++ late) (connection_remembering c (nonce_number p)) (given a b d false) (first_stop entry late n some) some) in
     record {
       never = ap (λ (r : OpenedCommand). is_command r.answer) e;
-      number = ap (λ (r : OpenedCommand). among (command_refusal_number r.answer) (7 ∷ 25 ∷ 10 ∷ 28 ∷ [])) e ∙ one_of_four a b d;
+      number = ap (λ (r : OpenedCommand). among (refusal_number r.answer) (7 ∷ 25 ∷ 10 ∷ 28 ∷ [])) e ∙ one_of_four a b d;
       exactly = λ blocks key.
           let h = held (block_rules p q.room) (tt, (tt, tt)) (blocks_clear p q.room blocks) in
-          ap (λ (r : OpenedCommand). command_refusal_number r.answer) e ∙ rw (h.0, h.1.0, key);
+          ap (λ (r : OpenedCommand). refusal_number r.answer) e ∙ rw (h.0, h.1.0, key);
       connection = ap (λ (r : OpenedCommand). r.connection) e;
     }
 
@@ -202,7 +203,7 @@ past_frame s c w h =
     frame_number g c.room c.payload c.major c.wrapper ∙ ap first_broken (frame_rules g c.room c.major c.wrapper c.payload w) in
     ap₂ ◌&&◌ (eq-eqb c.wrapper 128 w) (eq-eqb (first_broken xs) 0 (passed_first xs ys ms refl (ap (λ (n : ℕ). among n ms) (sym e) ∙ h)))
 
-past_packet_lem : (c : Connection) (q : PacketCall) → among (command_refusal_number (opened_packet c q).answer) (0 ∷ 19 ∷ 20 ∷ 21 ∷ 22 ∷ 23 ∷ 24 ∷ []) ≡ true
+past_packet_lem : (c : Connection) (q : PacketCall) → among (refusal_number (opened_packet c q).answer) (0 ∷ 19 ∷ 20 ∷ 21 ∷ 22 ∷ 23 ∷ 24 ∷ []) ≡ true
     → packet_passes c q ≡ true
 unfolding packet_pass_rules packet_entry_rules connection_rules characteristic_rules
 past_packet_lem c q h =
@@ -211,7 +212,7 @@ past_packet_lem c q h =
     let ms : List ℕ = 0 ∷ 19 ∷ 20 ∷ 21 ∷ 22 ∷ 23 ∷ 24 ∷ [] in
     let xs : List Rule = packet_pass_rules k q.room p in
     let ys : List Rule = command_rules (packet_in (packet_text k p)) k.mode (access_for (level_of (get_or p 3 0))) in
-    let e : command_refusal_number (opened_packet c q).answer ≡ first_broken (xs ++ ys) = packet_number k q.room p ∙ ap first_broken (packet_rules k q.room p) in
+    let e : refusal_number (opened_packet c q).answer ≡ first_broken (xs ++ ys) = packet_number k q.room p ∙ ap first_broken (packet_rules k q.room p) in
     eq-eqb (first_broken xs) 0 (passed_first xs ys ms refl (ap (λ (n : ℕ). among n ms) (sym e) ∙ h))
 
 -- ---- the law

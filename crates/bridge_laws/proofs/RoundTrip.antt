@@ -16,10 +16,10 @@ use Rattle.access.proofs.Levels.{level_back}
 use Rattle.access.specs.declared.Level.{Level}
 use Rattle.access.specs.declared.Access.TheVariants.{Keyed}
 use Rattle.control.specs.Control.{length_rules, command_rules, control_rules, command_at, control_content}
-use Rattle.control.specs.declared.ControlRead.TheVariants.{Accepted, Refused}
+use Rattle.wire.specs.Refusals.{refusing}
+use Rattle.std.specs.Prelude.{Ok, Option}
 use Rattle.control.proofs.Reading.{control_accepts}
-use Rattle.session.specs.Keys.{key_for, key_for_read}
-use Rattle.session.specs.declared.Key.{Key}
+use Rattle.session.specs.Keys.{key_for, key_for_read, key_bytes}
 use Rattle.envelope.specs.Blocks.{outside, sealer_rules, blocks_in}
 use Rattle.envelope.specs.Characteristic.{characteristic_text, characteristic_rules, packet_in}
 use Rattle.envelope.proofs.Unsealed.{characteristic_number, characteristic_level, characteristic_unsealed, characteristic_whole, late_text, packet_text_lem}
@@ -30,15 +30,14 @@ use Rattle.bridge.specs.Opening.{refused_command}
 use Rattle.bridge.specs.Content.{characteristic_given}
 use Rattle.bridge.proofs.Contents.{opens_packet}
 use Rattle.bridge.specs.declared.Link.{Link}
-use Rattle.bridge.specs.declared.CommandAnswer.TheVariants.{Accepted as CommandAccepted}
 
 -- an accepted packet breaks no rule
-none_broken : (n : ℕ) (p : List ℕ) → verdict Refused n (Accepted (command_at p)) ≡ Accepted (command_at p) → n ≡ 0
+none_broken : (n : ℕ) (p : List ℕ) → verdict refusing n (Ok (command_at p)) ≡ Ok (command_at p) → n ≡ 0
 none_broken zero p e = refl
 none_broken (suc n) p e = absurd (let z : ◌≡◌ {A = ℕ} 0 1 = cc in omega arith)
 
 module _ (k : Link) (level : Level) (pn packet : List ℕ) (s : SealablePacket k level pn packet) where
-  abbrev key : Key
+  abbrev key : Option (List ℕ)
   key = key_for k.keys k.mode level
 
   abbrev v : List ℕ
@@ -54,7 +53,7 @@ module _ (k : Link) (level : Level) (pn packet : List ℕ) (s : SealablePacket k
   long = (control_accepts packet k.mode (Keyed level) permitted).long
 
   level_read : level_of (get_or p 3 0) ≡ level_of (level_number level)
-  level_read = ap level_of (characteristic_level key.bytes pn k.connection.nonce (level_number level) v packet s.three)
+  level_read = ap level_of (characteristic_level (key_bytes key) pn k.connection.nonce (level_number level) v packet s.three)
 
   key_is : level_key k p ≡ key
   key_is = ap (key_for_read k.keys k.mode) (level_read ∙ level_back level)
@@ -62,18 +61,18 @@ module _ (k : Link) (level : Level) (pn packet : List ℕ) (s : SealablePacket k
   text_is : packet_text k p ≡ characteristic_text v packet
   unfolding packet_text
   text_is =
-      rw key_is (characteristic_unsealed key.bytes pn k.connection.nonce (level_number level) v packet s.three)
+      rw key_is (characteristic_unsealed (key_bytes key) pn k.connection.nonce (level_number level) v packet s.three)
 
   enters : (room : ℕ) → 16 * blocks_in p ≤ room → first_broken (packet_entry_rules k room p) ≡ 0
   unfolding packet_entry_rules connection_rules
   enters room h =
       rw (
-        characteristic_whole key.bytes pn k.connection.nonce (level_number level) v packet s.three s.four s.most,
+        characteristic_whole (key_bytes key) pn k.connection.nonce (level_number level) v packet s.three s.four s.most,
         le-ltb room (16 * blocks_in p) h,
         key_is,
         s.key,
         s.connection,
-        characteristic_number key.bytes pn k.connection.nonce (level_number level) v packet s.three,
+        characteristic_number (key_bytes key) pn k.connection.nonce (level_number level) v packet s.three,
         s.differs,
       )
 
@@ -101,7 +100,7 @@ module _ (k : Link) (level : Level) (pn packet : List ℕ) (s : SealablePacket k
             (rw (le-ltb (length packet) 5 (omega (arith, long)), le-ltb 492 (length packet) s.most, le-ltb (length room) (0 + length p) (omega arith), s.key)) w;
         answer = λ work h.
             judge_pass refused_command (packet_open_rules k (length work) p) (accepted_command (packet_text k p)) (unbroken (length work) h)
-            ∙ ap (λ (l : List ℕ). CommandAccepted (command_at l) (place_from true 9 (4 + length l))) packet_is;
+            ∙ ap (λ (l : List ℕ). Ok (command_at l, place_from true 9 (4 + length l))) packet_is;
         content = λ work h.
             (opens_packet k p work refl refl).content
             ∙ judge_pass (λ n. refused (characteristic_given n)) (packet_open_rules k (length work) p) (accepted (control_content (packet_in (packet_text k p)))) (unbroken (length work) h)

@@ -1,7 +1,7 @@
 -- A command comes through exactly when framing, checksum, session, key, mode, access and payload all permit it: demand 2's conditions, one by one.
 -- Document 02 §6 counts one more rule among those that must permit: refuse a packet nonce used again.
 -- Framing and checksum are the receiver's; proofs/Accepts.antt proves that the openers accept exactly when the rest hold.
-use Rattle.std.specs.Prelude.{ℕ, ◌+◌, ◌*◌, ◌≤◌, ◌≡◌, ◌⊎◌, Bool, true, false, List, length, get_or, take, drop}
+use Rattle.std.specs.Prelude.{ℕ, ◌+◌, ◌*◌, ◌≤◌, ◌≡◌, ◌⊎◌, Bool, true, false, List, length, get_or, take, drop, is_some, Ok, Err}
 use Rattle.wire.specs.Numbers.{num}
 use Rattle.aes.specs.Ctr.{blocks_for}
 use Rattle.access.specs.Level.{level_of}
@@ -17,18 +17,16 @@ use Rattle.bridge.specs.Opener.{admin_key, uart_text}
 use Rattle.bridge.specs.Characteristic.{access_for, packet_text}
 use Rattle.bridge.specs.declared.Context.{Context}
 use Rattle.bridge.specs.declared.Link.{Link}
-use Rattle.bridge.specs.declared.Answer.{Answer}
-use Rattle.bridge.specs.declared.Answer.TheVariants.{Accepted, Refused}
-use Rattle.bridge.specs.declared.CommandAnswer.{CommandAnswer}
-use Rattle.bridge.specs.declared.CommandAnswer.TheVariants.{Accepted as CommandAccepted, Refused as CommandRefused}
+use Rattle.bridge.specs.Content.{Answer}
+use Rattle.bridge.specs.Content.{CommandAnswer}
 
 abbrev pub is_accepted : Answer → Bool
-is_accepted (Accepted m at) = true
-is_accepted (Refused r) = false
+is_accepted (Ok a) = true
+is_accepted (Err r) = false
 
 abbrev pub is_command : CommandAnswer → Bool
-is_command (CommandAccepted c at) = true
-is_command (CommandRefused r) = false
+is_command (Ok a) = true
+is_command (Err r) = false
 
 -- 4 + 16n bytes, n 1 to 31, and room for n blocks
 pub record AcceptsBlocks (p : List ℕ) (room : ℕ) : Type 0 where
@@ -47,7 +45,7 @@ pub record AcceptsSealed (g : Context) (room : ℕ) (p : List ℕ) : Type 0 wher
   pub blocks : AcceptsBlocks p room
   -- key ID 0, and the admin key held in this mode
   pub id : get_or p 3 0 ≡ 0
-  pub key : (admin_key g).held ≡ true
+  pub key : is_some (admin_key g) ≡ true
   -- a session, which has not run out
   pub session : session_there g.session ≡ true
   pub valid : valid_at g.session g.time ≡ true
@@ -69,7 +67,7 @@ pub record AcceptsFrame (g : Context) (room major wrapper : ℕ) (p : List ℕ) 
 pub record AcceptsPacket (k : Link) (room : ℕ) (p : List ℕ) : Type 0 where
   pub blocks : AcceptsBlocks p room
   -- the key of its level held in this mode
-  pub key : (key_for_number k.keys k.mode (get_or p 3 0)).held ≡ true
+  pub key : is_some (key_for_number k.keys k.mode (get_or p 3 0)) ≡ true
   pub session : connection_there k.connection ≡ true
   -- the packet nonce differs from those remembered
   pub differs : used_again k.connection.memory p ≡ false

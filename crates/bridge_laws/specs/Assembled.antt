@@ -1,5 +1,5 @@
 -- A characteristic packet that comes in parts is first assembled and then opened. The statement; proofs/Assembled.antt proves it.
-use Rattle.std.specs.Prelude.{ℕ, ◌+◌, ◌*◌, ◌-◌, ◌≤◌, ◌≡◌, true, List, length, replicate}
+use Rattle.std.specs.Prelude.{ℕ, ◌+◌, ◌*◌, ◌-◌, ◌≤◌, ◌≡◌, true, List, length, replicate, Ok}
 use Rattle.access.specs.declared.Level.{Level}
 use Rattle.wire.specs.Content.{accepted}
 use Rattle.control.specs.Control.{command_at, control_content}
@@ -14,7 +14,6 @@ use Rattle.bridge.specs.Content.{command_answer_content}
 use Rattle.bridge.specs.Characteristic.{OpensPacket}
 use Rattle.bridge.specs.declared.Link.{Link}
 use Rattle.bridge.specs.declared.OpenedCommand.{OpenedCommand}
-use Rattle.bridge.specs.declared.CommandAnswer.TheVariants.{Accepted as CommandAccepted}
 use Rattle.bridge_laws.specs.RoundTrip.{packet_sealed}
 
 -- the message of that length in the store, after the parts
@@ -36,5 +35,5 @@ pub record OpensSealed (k : Link) (level : Level) (pn packet : List ℕ) (ds : L
   pub opens :
       (work left : List ℕ) (r : OpenedCommand) → 16 * blocks_in (packet_sealed k level pn packet) ≤ length work
       → OpensPacket k (assembled ds a (length (packet_sealed k level pn packet))) work r left
-      → (r.answer ≡ CommandAccepted (command_at packet) (place_from true 9 (4 + length packet)))
+      → (r.answer ≡ Ok (command_at packet, place_from true 9 (4 + length packet)))
       × (command_answer_content r.answer (packet_sealed k level pn packet) left ≡ accepted (control_content packet))

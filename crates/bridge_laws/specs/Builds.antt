@@ -1,8 +1,8 @@
 -- Document 02 §9: "both builds tell their callers the same". What an opener or a sealer promises leaves it no choice: two functions that keep the promise, given
 -- the same, answer the same and leave the same bytes. The statement, `ToldTheSame`; proofs/Builds.antt proves it.
-use Rattle.std.specs.Prelude.{ℕ, ◌≡◌, Bool, List}
-use Rattle.wire.specs.declared.Written.{Written}
-use Rattle.session.specs.declared.Key.{Key}
+use Rattle.std.specs.Prelude.{ℕ, ◌≡◌, Bool, List, Option}
+use Rattle.std.specs.Prelude.{Result}
+use Rattle.wire.specs.declared.refusals.Refusal.{Refusal}
 use Rattle.envelope.specs.Blocks.{Seals}
 use Rattle.bridge.specs.Opener.{OpensFrame}
 use Rattle.bridge.specs.Characteristic.{OpensPacket}
@@ -21,5 +21,5 @@ pub record ToldTheSame : Type 0 where
       → OpensFrame g major wrapper p work a left → OpensFrame g major wrapper p work b right → Same a b left right
   pub packets : (k : Link) (p work : List ℕ) {a b : OpenedCommand} {left right : List ℕ}
       → OpensPacket k p work a left → OpensPacket k p work b right → Same a b left right
-  pub seals : (key : Key) (bad : Bool) (image room : List ℕ) {a b : Written} {left right : List ℕ}
+  pub seals : (key : Option (List ℕ)) (bad : Bool) (image room : List ℕ) {a b : Result ℕ Refusal} {left right : List ℕ}
       → Seals key bad image room a left → Seals key bad image room b right → Same a b left right

@@ -1,6 +1,6 @@
 -- Document 02 §2: whatever bytes pad an encrypted message, its frame is opened as if we had sealed it, and the work buffer keeps that padding. The
 -- statement, `AnyPadding`; proofs/Padding.antt proves it for every context.
-use Rattle.std.specs.Prelude.{ℕ, ◌*◌, ◌≤◌, ◌≡◌, true, false, List, ◌++◌, length, drop}
+use Rattle.std.specs.Prelude.{ℕ, ◌*◌, ◌≤◌, ◌≡◌, true, false, List, ◌++◌, length, drop, is_some}
 use Rattle.wire.specs.Rules.{judge}
 use Rattle.wire.specs.Content.{Judged, Content, accepted}
 use Rattle.message.specs.Accepts.{AcceptsMessage}
@@ -12,6 +12,7 @@ use Rattle.envelope.specs.Sealed.{unpadded, sealed_image, sealed_with}
 use Rattle.bridge.specs.Content.{Given, answer_content}
 use Rattle.bridge.specs.Opener.{admin_key, uart_open_rules, opened, work_after}
 use Rattle.bridge.specs.declared.Context.{Context}
+use Rattle.session.specs.Keys.{key_bytes}
 
 -- as many bytes as fill up to the next multiple of 16
 abbrev pub Fills : List ℕ → List ℕ → Type 0
@@ -19,10 +20,10 @@ Fills m padding = length padding ≡ padding_for (unpadded m)
 
 -- a message under the admin key and the session nonce of a context: as we seal it, and with that padding
 abbrev pub zero_padded : Context → List ℕ → List ℕ → List ℕ
-zero_padded g pn m = sealed_image (admin_key g).bytes pn g.session.nonce m
+zero_padded g pn m = sealed_image (key_bytes (admin_key g)) pn g.session.nonce m
 
 abbrev pub padded_with : Context → List ℕ → List ℕ → List ℕ → List ℕ
-padded_with g pn m padding = sealed_with (admin_key g).bytes pn g.session.nonce m padding
+padded_with g pn m padding = sealed_with (key_bytes (admin_key g)) pn g.session.nonce m padding
 
 -- what opening an encrypted frame gives: every field and the bytes of each part, or the refusal's number and reply
 abbrev pub content_given : Context → ℕ → List ℕ → List ℕ → Judged Content Given
@@ -42,7 +43,7 @@ pub record OpensAsOurs (g : Context) (major : ℕ) (pn m padding : List ℕ) : T
 -- ---- a message that may come through
 -- demand 2's conditions, framing aside: key, session, a packet nonce that is not remembered, length; data type, form, mode, access and payload
 pub record PermittedMessage (g : Context) (pn m : List ℕ) : Type 0 where
-  pub key : (admin_key g).held ≡ true
+  pub key : is_some (admin_key g) ≡ true
   pub session : session_there g.session ≡ true
   pub valid : valid_at g.session g.time ≡ true
   pub differs : used_again g.session.memory pn ≡ false

@@ -1,7 +1,7 @@
 -- Document 02 §6: a sealed message that passed all of 10 to 13, opened again, is never accepted. It gets 28, or a refusal that stands before it; exactly 28
 -- where length, room, key and time permit. Whatever its blocks hold, and whatever came between, as long as fewer than eight other encrypted messages
 -- passed and the session nonce stayed. The statement, `ReplayRefused`; proofs/Replay.antt proves it.
-use Rattle.std.specs.Prelude.{ℕ, suc, ◌<◌, ◌≡◌, Bool, true, false, ◌&&◌, List, [], ◌∷◌, get_or, eqb}
+use Rattle.std.specs.Prelude.{ℕ, suc, ◌<◌, ◌≡◌, Bool, true, false, ◌&&◌, List, [], ◌∷◌, get_or, eqb, is_some}
 use Rattle.wire.specs.Choice.{pick}
 use Rattle.wire.specs.Rules.{first_broken, among}
 use Rattle.units.specs.declared.Seconds.{Seconds}
@@ -12,7 +12,7 @@ use Rattle.session.specs.declared.Keys.{Keys}
 use Rattle.session.specs.declared.Session.{Session}
 use Rattle.envelope.specs.Blocks.{nonce_number}
 use Rattle.session_data.specs.SessionData.{data_key, data_read}
-use Rattle.bridge.specs.Content.{refusal_number, command_refusal_number}
+use Rattle.bridge.specs.Content.{refusal_number}
 use Rattle.bridge.specs.Opener.{admin_key, uart_pass_rules, opened}
 use Rattle.bridge.specs.Characteristic.{level_key, packet_pass_rules, characteristic_opened}
 use Rattle.bridge.specs.declared.Context.{Context}
@@ -67,7 +67,7 @@ pub record FrameRefused (s : Session) (c : FrameCall) : Type 0 where
   pub never : is_accepted (opened_frame s c).answer ≡ false
   pub number : among (refusal_number (opened_frame s c).answer) (7 ∷ 25 ∷ 10 ∷ 9 ∷ 28 ∷ []) ≡ true
   pub exactly :
-      AcceptsBlocks c.payload c.room → get_or c.payload 3 0 ≡ 0 → (admin_key (context_for s c)).held ≡ true → valid_at s c.time ≡ true
+      AcceptsBlocks c.payload c.room → get_or c.payload 3 0 ≡ 0 → is_some (admin_key (context_for s c)) ≡ true → valid_at s c.time ≡ true
       → refusal_number (opened_frame s c).answer ≡ 28
   pub session : (opened_frame s c).session ≡ s
 
@@ -103,9 +103,9 @@ connection_passes c (reads keys mode block) = false
 -- such a packet is refused, and the connection session c stays
 pub record PacketRefused (c : Connection) (q : PacketCall) : Type 0 where
   pub never : is_command (opened_packet c q).answer ≡ false
-  pub number : among (command_refusal_number (opened_packet c q).answer) (7 ∷ 25 ∷ 10 ∷ 28 ∷ []) ≡ true
+  pub number : among (refusal_number (opened_packet c q).answer) (7 ∷ 25 ∷ 10 ∷ 28 ∷ []) ≡ true
   pub exactly :
-      AcceptsBlocks q.packet q.room → (level_key (link_for c q) q.packet).held ≡ true → command_refusal_number (opened_packet c q).answer ≡ 28
+      AcceptsBlocks q.packet q.room → is_some (level_key (link_for c q) q.packet) ≡ true → refusal_number (opened_packet c q).answer ≡ 28
   pub connection : (opened_packet c q).connection ≡ c
 
 -- ---- the statement
@@ -116,7 +116,7 @@ pub record ReplayRefused : Type 0 where
       → among (refusal_number (opened_frame s c).answer) (0 ∷ 14 ∷ 15 ∷ 16 ∷ 17 ∷ 18 ∷ 19 ∷ 20 ∷ 21 ∷ 22 ∷ 23 ∷ 24 ∷ []) ≡ true
       → frame_passes s c ≡ true
   pub past_packet :
-      (c : Connection) (q : PacketCall) → among (command_refusal_number (opened_packet c q).answer) (0 ∷ 19 ∷ 20 ∷ 21 ∷ 22 ∷ 23 ∷ 24 ∷ []) ≡ true
+      (c : Connection) (q : PacketCall) → among (refusal_number (opened_packet c q).answer) (0 ∷ 19 ∷ 20 ∷ 21 ∷ 22 ∷ 23 ∷ 24 ∷ []) ≡ true
       → packet_passes c q ≡ true
   -- a frame, and another with its packet nonce
   pub frame :

@@ -10,8 +10,9 @@ use lib.Dec.{eqb, ltb}
 use borrow.Author.Tests.{ltb-false}
 use Rattle.wire.specs.Rules.{first_broken}
 use Rattle.wire.specs.Writing.{Stores}
-use Rattle.wire.specs.declared.Written.{Written}
-use Rattle.wire.specs.declared.Written.TheVariants.{Wrote}
+use Rattle.std.specs.Prelude.{Result}
+use Rattle.wire.specs.declared.refusals.Refusal.{Refusal}
+use Rattle.std.specs.Prelude.{Ok}
 use Rattle.wire.proofs.Choice.{or_fails}
 use Rattle.wire.proofs.Held.{held}
 use Rattle.wire.proofs.Lists.{nil_of}
@@ -111,9 +112,9 @@ module _ (size : ℕ) where
         pieces_cut (ltb-false _ _ h.0) (ltb-false _ _ (or_fails (eqb size 0) (ltb 256 (length (pieces size m))) h.1.0).1)
 
     -- a call of `cut` whose rules all hold has written the parts of the message, cut by the rules, at the front of the room
-    pub cutter_cuts : (room after : List ℕ) (answer : Written) → first_broken (cutter_rules size m room) ≡ 0
+    pub cutter_cuts : (room after : List ℕ) (answer : Result ℕ Refusal) → first_broken (cutter_rules size m room) ≡ 0
         → Stores (cutter_rules size m room) 0 (cut_image size m) room answer after
-        → (answer ≡ Wrote (length (cut_image size m))) × (take (length (cut_image size m)) after ≡ flatten (parts (pieces size m))) × Cuts m (pieces size m)
+        → (answer ≡ Ok (length (cut_image size m))) × (take (length (cut_image size m)) after ≡ flatten (parts (pieces size m))) × Cuts m (pieces size m)
     unfolding cut_image
     cutter_cuts room after answer e w =
         let d = wrote (cutter_rules size m room) (cut_image size m) room after answer e w in

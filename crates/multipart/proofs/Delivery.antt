@@ -18,8 +18,9 @@ use Rattle.multipart.specs.Assembler.{gathered, fresh_progress, fresh_assembler,
 use Rattle.multipart.specs.Delivery.{answers_to, after, handed, handed_out, ready, Gives, Delivers, Assembles, CutAssembles, BehindLast, Recovers, Discards, AssemblesAll, SameMessages}
 use Rattle.multipart.specs.declared.Progress.{Progress}
 use Rattle.multipart.specs.declared.Assembler.{Assembler}
-use Rattle.multipart.specs.declared.PartAnswer.{PartAnswer}
-use Rattle.multipart.specs.declared.PartAnswer.TheVariants.{More, Message, Refused}
+use Rattle.multipart.specs.Assembler.{PartAnswer}
+use Rattle.multipart.specs.Assembler.{more, message_given}
+use Rattle.wire.specs.Refusals.{refusing}
 use Rattle.multipart.specs.declared.Step.{Step}
 
 -- ---- the store
@@ -67,14 +68,14 @@ counted_part a k bytes = rw (ne_eqb (length (k ∷ bytes)) 0 (λ z. omega arith)
 -- in turn, behind what stands at the front of the store
 module _ (k : ℕ) (front bytes s : List ℕ) (p : Progress) (e : limited p ≡ gathered k (length front)) (fits : length (front ++ bytes) ≤ 500) where
   next_kept : k ≤ 254
-      → step_of (holding p (placed 0 front s)) (k ∷ bytes) ≡ step_to (gathered (k + 1) (length (front ++ bytes))) (placed 0 (front ++ bytes) s) More
+      → step_of (holding p (placed 0 front s)) (k ∷ bytes) ≡ step_to (gathered (k + 1) (length (front ++ bytes))) (placed 0 (front ++ bytes) s) more
   unfolding counted in_turn kept
   next_kept h =
       counted_part (holding p (placed 0 front s)) k bytes
       ∙ rw (e, ne_eqb k 255 (λ z. omega arith), eq-eqb k k refl)
       (rw (placed_more front bytes s, sym (length-append front bytes), le-ltb 500 (length (front ++ bytes)) fits))
 
-  last_kept : step_of (holding p (placed 0 front s)) (255 ∷ bytes) ≡ step_to fresh_progress (placed 0 (front ++ bytes) s) (Message (length (front ++ bytes)))
+  last_kept : step_of (holding p (placed 0 front s)) (255 ∷ bytes) ≡ step_to fresh_progress (placed 0 (front ++ bytes) s) (message_given (length (front ++ bytes)))
   unfolding counted in_turn kept
   last_kept =
       counted_part (holding p (placed 0 front s)) 255 bytes
@@ -82,7 +83,7 @@ module _ (k : ℕ) (front bytes s : List ℕ) (p : Progress) (e : limited p ≡ 
 
 -- a first part where something is gathered or discarded
 first_kept : (bytes s : List ℕ) (p : Progress) → ready p ≡ false → length bytes ≤ 500
-    → step_of (holding p s) (0 ∷ bytes) ≡ step_to (gathered 1 (length bytes)) (placed 0 bytes s) (Refused 26)
+    → step_of (holding p s) (0 ∷ bytes) ≡ step_to (gathered 1 (length bytes)) (placed 0 bytes s) (refusing 26)
 unfolding ready limited counted in_turn out_of_turn
 first_kept bytes s p e h =
     let a = or_fails (outside p) (eqb p.parts 0 && not p.discarding) e in
@@ -106,13 +107,13 @@ gives_more t e g = record { answered = rw (e, g.answered); hands = rw (e, g.hand
 module _ (message s : List ℕ) (fits : length message ≤ 500) where
   gives_from : (ds : List (List ℕ)) (d : List ℕ) (k : ℕ) (front : List ℕ) (p : Progress) → limited p ≡ gathered k (length front)
       → k + length ds ≤ 255 → front ++ flatten (d ∷ ds) ≡ message
-      → Gives (parts_from k (d ∷ ds)) (holding p (placed 0 front s)) (replicate (length ds) More ++ (Message (length message) ∷ [])) (message ∷ [])
+      → Gives (parts_from k (d ∷ ds)) (holding p (placed 0 front s)) (replicate (length ds) more ++ (message_given (length message) ∷ [])) (message ∷ [])
       (holding fresh_progress (placed 0 message s))
   unfolding parts_from flatten
   gives_from [] d k front p e h q =
       let m : front ++ d ≡ message = ap (λ (l : List ℕ). front ++ l) (sym (append-nil d)) ∙ q in
       let t = last_kept k front d s p e (omega (arith, ap length m)) in
-      let g = gives_more (step_to fresh_progress (placed 0 message s) (Message (length message))) (t ∙ rw m) (gives_none (holding fresh_progress (placed 0 message s))) in
+      let g = gives_more (step_to fresh_progress (placed 0 message s) (message_given (length message))) (t ∙ rw m) (gives_none (holding fresh_progress (placed 0 message s))) in
       rw (stands_front message s) at g
   gives_from (d' ∷ ds) d k front p e h q =
       let m = append_assoc front d (flatten (d' ∷ ds)) ∙ q in
@@ -139,7 +140,7 @@ cut_assembles size message room left answer a e w r =
     let c = cutter_cuts size message room left answer e w in
     let n : length (pieces size message) - 1 ≡ pieces_before size (length message) = omega (arith, pieces_length size message) in
     let N : ℕ = pieces_before size (length message) in
-    subst (λ (ps : List (List ℕ)). Delivers (replicate N More) ps message a) (sym (ap (cut_after N (size + 1)) c.1 ∙ image_apart size message))
+    subst (λ (ps : List (List ℕ)). Delivers (replicate N more) ps message a) (sym (ap (cut_after N (size + 1)) c.1 ∙ image_apart size message))
     (rw n at (assembles message (pieces size message) a c.2 r))
 
 -- ---- from any record
@@ -164,7 +165,7 @@ unfolding parts_from flatten
 recovers message first second ds a c = go (ready a.progress) refl
   where
     go : (t : Bool) → ready a.progress ≡ t
-        → Delivers (pick t More (Refused 26) ∷ replicate (length ds) More) (parts (first ∷ second ∷ ds)) message a
+        → Delivers (pick t more (refusing 26) ∷ replicate (length ds) more) (parts (first ∷ second ∷ ds)) message a
     go true e = let n : length (first ∷ second ∷ ds) - 1 ≡ suc (length ds) = omega arith in rw n at (assembles message (first ∷ second ∷ ds) a c e)
     go false e =
         let fit : length first ≤ 500 = omega (arith, c.fits, ap length c.joined, length-append first (flatten (second ∷ ds))) in
@@ -175,7 +176,7 @@ pub discards : Discards
 unfolding limited counted in_turn out_of_turn
 discards a counter bytes o d =
     let P : Step → Type 0 = λ t.
-    (t.answer ≡ Refused 26) × (t.assembler.progress.discarding ≡ not (eqb counter 255 || (eqb counter 0 && leb (length bytes) 500))) in
+    (t.answer ≡ refusing 26) × (t.assembler.progress.discarding ≡ not (eqb counter 255 || (eqb counter 0 && leb (length bytes) 500))) in
     subst P (sym (counted_part a counter bytes))
     (rw (o, d)
     (pick_all P (eqb counter 255) (λ e. (refl, rw e))

@@ -5,7 +5,8 @@ use Rattle.wire.specs.Parts.{part_of}
 use Rattle.multipart.specs.Cutting.{parts_from, parts, cut_after, cut_image}
 use Rattle.multipart.specs.Assembler.{fresh_assembler, outside, limited, in_turn, out_of_turn, over_long, kept, counted, step_of}
 use Rattle.multipart.specs.Delivery.{answers_to, handed_out}
-use Rattle.multipart.specs.declared.PartAnswer.TheVariants.{More, Message, Refused}
+use Rattle.multipart.specs.Assembler.{more, message_given}
+use Rattle.wire.specs.Refusals.{refusing}
 
 -- ---- cutting
 -- three pieces, the last without data
@@ -44,6 +45,6 @@ unfolding handed_out step_of counted in_turn limited outside out_of_turn over_lo
 doubled_last = refl
 
 -- ---- what is noticed: one in the middle is lost, and the 255 ends the discarding
-lost_middle : answers_to ((0 ∷ 1 ∷ []) ∷ (2 ∷ 3 ∷ []) ∷ (255 ∷ 4 ∷ []) ∷ (255 ∷ []) ∷ []) fresh_assembler ≡ More ∷ Refused 26 ∷ Refused 26 ∷ Message 0 ∷ []
+lost_middle : answers_to ((0 ∷ 1 ∷ []) ∷ (2 ∷ 3 ∷ []) ∷ (255 ∷ 4 ∷ []) ∷ (255 ∷ []) ∷ []) fresh_assembler ≡ more ∷ refusing 26 ∷ refusing 26 ∷ message_given 0 ∷ []
 unfolding answers_to step_of counted in_turn limited outside out_of_turn over_long kept
 lost_middle = refl

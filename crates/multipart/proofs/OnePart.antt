@@ -11,11 +11,12 @@ use borrow.Author.Tests.{ltb-false, leb-true, le-ltb, ne_eqb}
 use Rattle.wire.specs.Content.{accepted, refused}
 use Rattle.wire.specs.Rules.{judge}
 use Rattle.wire.specs.Writing.{Stores, no_room, placed}
-use Rattle.wire.specs.declared.Written.{Written}
+use Rattle.std.specs.Prelude.{Result}
+use Rattle.wire.specs.declared.refusals.Refusal.{Refusal}
 use Rattle.wire.proofs.Choice.{pick_all, and_holds, or_fails}
 use Rattle.multipart.specs.Assembler.{fresh_progress, holding, outside, limited, step_to, in_turn, out_of_turn, over_long, kept, counted, step_of, part_rules, length_given, answer_number, TakesPart}
 use Rattle.multipart.specs.declared.Assembler.{Assembler}
-use Rattle.multipart.specs.declared.PartAnswer.{PartAnswer}
+use Rattle.multipart.specs.Assembler.{PartAnswer}
 use Rattle.multipart.specs.declared.Step.{Step}
 use Rattle.multipart.specs.declared.Progress.{Progress}
 
@@ -32,7 +33,7 @@ limited_within p e =
     (rw e, ltb-false 255 p.parts b.0, ltb-false 500 p.bytes b.1)
 
 -- ---- bytes for which there is room
-pub stored : (at : ℕ) (bytes room after : List ℕ) (answer : Written) → at + length bytes ≤ length room
+pub stored : (at : ℕ) (bytes room after : List ℕ) (answer : Result ℕ Refusal) → at + length bytes ≤ length room
     → Stores (no_room at bytes room ∷ []) at bytes room answer after → after ≡ placed at bytes room
 stored at bytes room after answer h w = rw (le-ltb _ _ h) at w.leaves
 

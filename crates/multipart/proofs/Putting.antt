@@ -1,5 +1,5 @@
 -- Parts put one behind the other, and how the cutter ends. Assumes nothing.
-use mathlib.Core.Path.{◌≡◌, sym, ap, ◌∙◌}
+use mathlib.Core.Path.{◌≡◌, refl, sym, ap, ◌∙◌}
 use mathlib.Core.Bool.{true, ◌||◌}
 use mathlib.Core.List.{List, [], ◌∷◌, flatten, append-nil}
 use Prim.Native.Nat.{ℕ, suc, ◌+◌, ◌-◌, ◌*◌, ◌≤◌, ◌<◌}
@@ -11,15 +11,17 @@ use lib.Seq.{sets, drop-drop, length-take-le, take_all}
 use lib.Dec.{eqb, ltb}
 use borrow.Author.Tests.{le-ltb, lt-ltb, eq-eqb, ne_eqb}
 use Rattle.wire.specs.Writing.{Stores, no_room}
-use Rattle.wire.specs.declared.Written.{Written}
-use Rattle.wire.specs.declared.Written.TheVariants.{Wrote, Refused}
+use Rattle.std.specs.Prelude.{Result}
+use Rattle.wire.specs.declared.refusals.Refusal.{Refusal}
+use Rattle.std.specs.Prelude.{Ok}
+use Rattle.wire.specs.Refusals.{refusing}
 use Rattle.wire.proofs.Lists.{sets_then}
 use Rattle.wire.proofs.Writing.{stores_sets, stores_refused, stores_past, stores_short, stores_made}
 use Rattle.multipart.specs.Cutting.{parts_from, cut_after, pieces_before, pieces, cut_image, cutter_rules}
 use Rattle.multipart.proofs.Cutting.{remaining, first_of, pieces_length, image_length}
 
 -- one part: its counter is stored, and its bytes behind
-pub part_stored : (counter : ℕ) (bytes o : List ℕ) (at : ℕ) {answer : Written} {o' : List ℕ} → at + suc (length bytes) ≤ length o
+pub part_stored : (counter : ℕ) (bytes o : List ℕ) (at : ℕ) {answer : Result ℕ Refusal} {o' : List ℕ} → at + suc (length bytes) ≤ length o
     → Stores (no_room (at + 1) bytes (set o at counter) ∷ []) (at + 1) bytes (set o at counter) answer o' → o' ≡ sets o at (counter ∷ bytes)
 part_stored counter bytes o at h w =
     let l : at + 1 + length bytes ≤ length (set o at counter) = omega (arith, length-set o at counter) in
@@ -61,19 +63,19 @@ last_put size full from {k} m o o' t e eo q =
 
 -- ---- how the cutter ends
 module _ (size : ℕ) (m room : List ℕ) where
-  abbrev Ends : Written → List ℕ → Type 0
+  abbrev Ends : Result ℕ Refusal → List ℕ → Type 0
   Ends answer after = Stores (cutter_rules size m room) 0 (cut_image size m) room answer after
 
   -- the message is too long
-  pub cut_long : 500 < length m → Ends (Refused 27) room
-  cut_long h = stores_refused 0 (cut_image size m) room (cutter_rules size m room) 26 (rw (lt-ltb _ _ h))
+  pub cut_long : 500 < length m → Ends (refusing 27) room
+  cut_long h = stores_refused 0 (cut_image size m) room (cutter_rules size m room) 26 refl (rw (lt-ltb _ _ h))
 
   module _ (h : length m ≤ 500) where
-    bad : eqb size 0 || ltb 256 (length (pieces size m)) ≡ true → Ends (Refused 17) room
-    bad e = stores_refused 0 (cut_image size m) room (cutter_rules size m room) 16 (rw (le-ltb _ _ h, e))
+    bad : eqb size 0 || ltb 256 (length (pieces size m)) ≡ true → Ends (refusing 17) room
+    bad e = stores_refused 0 (cut_image size m) room (cutter_rules size m room) 16 refl (rw (le-ltb _ _ h, e))
 
     -- no bytes per part
-    pub cut_no_size : size ≡ 0 → Ends (Refused 17) room
+    pub cut_no_size : size ≡ 0 → Ends (refusing 17) room
     cut_no_size e = bad (rw (eq-eqb size 0 e))
 
     module _ (full : ℕ) (some : size ≡ 0 → ⊥) (e : full ≡ pieces_before size (length m)) where
@@ -81,22 +83,22 @@ module _ (size : ℕ) (m room : List ℕ) where
       many = pieces_length size m ∙ ap suc (sym e)
 
       -- too many parts
-      pub cut_many : 255 < full → Ends (Refused 17) room
+      pub cut_many : 255 < full → Ends (refusing 17) room
       cut_many k = bad (rw (ne_eqb size 0 some) (lt-ltb 256 (length (pieces size m)) (omega (arith, many))))
 
       module _ (few : full ≤ 255) where
-        good : {answer : Written} {after : List ℕ} → Stores (no_room 0 (cut_image size m) room ∷ []) 0 (cut_image size m) room answer after → Ends answer after
+        good : {answer : Result ℕ Refusal} {after : List ℕ} → Stores (no_room 0 (cut_image size m) room ∷ []) 0 (cut_image size m) room answer after → Ends answer after
         good w =
             stores_past 0 (cut_image size m) room 27 _ (le-ltb _ _ h)
             (stores_past 0 (cut_image size m) room 17 _ (rw (ne_eqb size 0 some) (le-ltb 256 (length (pieces size m)) (omega (arith, many)))) w)
 
         -- no room
-        pub cut_short : length room < length m + full + 1 → Ends (Refused 25) room
+        pub cut_short : length room < length m + full + 1 → Ends (refusing 25) room
         cut_short k = good (stores_short 0 (cut_image size m) room (omega (arith, image_length size m, many)))
 
         -- the parts are put
         pub cut_made : {after : List ℕ} → length m + full + 1 ≤ length room → after ≡ sets room 0 (remaining size 0 full m)
-            → Ends (Wrote (length m + full + 1)) after
+            → Ends (Ok (length m + full + 1)) after
         unfolding cut_image
         cut_made k s =
             good

@@ -1,5 +1,5 @@
 -- What one part does to the assembler: document 02 §1.
-use Rattle.std.specs.Prelude.{ℕ, ◌+◌, ◌≡◌, Bool, true, false, not, ◌&&◌, ◌||◌, List, [], ◌∷◌, length, get_or, drop, replicate, eqb, leb, ltb}
+use Rattle.std.specs.Prelude.{ℕ, ◌+◌, ◌≡◌, Bool, true, false, not, ◌&&◌, ◌||◌, List, [], ◌∷◌, length, get_or, drop, replicate, eqb, leb, ltb, Option, Some, None, Result, Ok, Err}
 use Rattle.wire.specs.Choice.{pick}
 use Rattle.wire.specs.Content.{Judged, accepted, refused}
 use Rattle.wire.specs.Parts.{part_of}
@@ -7,9 +7,9 @@ use Rattle.wire.specs.Rules.{Rule, ◌when◌, judge}
 use Rattle.wire.specs.Writing.{placed}
 use Rattle.multipart.specs.declared.Progress.{Progress}
 use Rattle.multipart.specs.declared.Assembler.{Assembler}
-use Rattle.multipart.specs.declared.PartAnswer.{PartAnswer}
-use Rattle.multipart.specs.declared.PartAnswer.TheVariants.{More, Message, Refused}
+use Rattle.wire.specs.Refusals.{refusing, number_of}
 use Rattle.multipart.specs.declared.Step.{Step}
+use Rattle.wire.specs.declared.refusals.Refusal.{Refusal}
 
 -- ---- the record
 -- how many parts and bytes are gathered
@@ -39,6 +39,16 @@ unfoldable pub limited : Progress → Progress
 limited p = pick (outside p) fresh_progress p
 
 -- ---- one part: how the record stands after it, and the answer
+-- nothing yet, a message of this length, or a refusal
+abbrev pub PartAnswer : Type 0
+PartAnswer = Result (Option ℕ) Refusal
+
+abbrev pub more : PartAnswer
+more = Ok None
+
+abbrev pub message_given : ℕ → PartAnswer
+message_given n = Ok (Some n)
+
 abbrev pub step_to : Progress → List ℕ → PartAnswer → Step
 step_to p s answer = record { assembler = holding p s; answer = answer }
 
@@ -50,21 +60,21 @@ in_turn p counter = not p.discarding && (eqb counter 255 || eqb counter p.parts)
 unfoldable pub out_of_turn : List ℕ → ℕ → List ℕ → Step
 out_of_turn s counter bytes =
     pick (eqb counter 255)
-    (step_to fresh_progress s (Refused 26))
+    (step_to fresh_progress s (refusing 26))
     (pick (eqb counter 0 && leb (length bytes) 500)
-    (step_to (gathered 1 (length bytes)) (placed 0 bytes s) (Refused 26))
-    (step_to discarding s (Refused 26)))
+    (step_to (gathered 1 (length bytes)) (placed 0 bytes s) (refusing 26))
+    (step_to discarding s (refusing 26)))
 
 -- the message over 500 bytes: a 255 leaves no discarding behind
 unfoldable pub over_long : List ℕ → ℕ → Step
-over_long s counter = step_to (pick (eqb counter 255) fresh_progress discarding) s (Refused 27)
+over_long s counter = step_to (pick (eqb counter 255) fresh_progress discarding) s (refusing 27)
 
 -- the bytes go to the next places of the store; 255 is the last part
 unfoldable pub kept : Progress → List ℕ → ℕ → List ℕ → Step
 kept p s counter bytes =
     pick (eqb counter 255)
-    (step_to fresh_progress (placed p.bytes bytes s) (Message (p.bytes + length bytes)))
-    (step_to (gathered (p.parts + 1) (p.bytes + length bytes)) (placed p.bytes bytes s) More)
+    (step_to fresh_progress (placed p.bytes bytes s) (message_given (p.bytes + length bytes)))
+    (step_to (gathered (p.parts + 1) (p.bytes + length bytes)) (placed p.bytes bytes s) more)
 
 -- a counter and bytes: 26 for a counter out of turn; 27 for a message over 500 bytes
 unfoldable pub counted : Progress → List ℕ → ℕ → List ℕ → Step
@@ -79,7 +89,7 @@ counted p s counter bytes =
 unfoldable pub step_of : Assembler → List ℕ → Step
 step_of a part =
     pick (eqb (length part) 0)
-    (step_to a.progress a.store (Refused 7))
+    (step_to a.progress a.store (refusing 7))
     (counted (limited a.progress) a.store (get_or part 0 0) (drop 1 part))
 
 -- ---- the numbers
@@ -96,9 +106,9 @@ abbrev pub length_given : Progress → List ℕ → List ℕ
 length_given p part = pick (eqb (get_or part 0 0) 255) ((p.bytes + length (drop 1 part)) ∷ []) []
 
 abbrev pub answer_number : PartAnswer → Judged (List ℕ) ℕ
-answer_number More = accepted []
-answer_number (Message n) = accepted (n ∷ [])
-answer_number (Refused n) = refused n
+answer_number (Ok None) = accepted []
+answer_number (Ok (Some n)) = accepted (n ∷ [])
+answer_number (Err r) = refused (number_of r)
 
 -- what a function promises that takes one part
 pub record TakesPart (a : Assembler) (part : List ℕ) (a' : Assembler) (answer : PartAnswer) : Type 0 where

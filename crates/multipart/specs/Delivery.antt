@@ -1,16 +1,18 @@
 -- What is proved of many parts: any cutting by the rules comes through. The statements; proofs/Delivery.antt proves them.
-use Rattle.std.specs.Prelude.{ℕ, ◌+◌, ◌-◌, ◌≡◌, Bool, true, false, not, ◌&&◌, ◌||◌, length, take, replicate, eqb, leb}
+use Rattle.std.specs.Prelude.{ℕ, ◌+◌, ◌-◌, ◌≡◌, Bool, true, false, not, ◌&&◌, ◌||◌, length, take, replicate, eqb, leb, Some, None, Ok, Err}
 use mathlib.Core.List.{List, [], ◌∷◌, ◌++◌, flatten, map}
 use Rattle.wire.specs.Choice.{pick}
 use Rattle.wire.specs.Rules.{first_broken}
 use Rattle.wire.specs.Writing.{Stores, placed}
-use Rattle.wire.specs.declared.Written.{Written}
+use Rattle.std.specs.Prelude.{Result}
+use Rattle.wire.specs.declared.refusals.Refusal.{Refusal}
 use Rattle.multipart.specs.Cutting.{parts, Cuts, cut_after, pieces_before, cut_image, cutter_rules}
 use Rattle.multipart.specs.Assembler.{fresh_progress, holding, outside, step_of, message_of}
 use Rattle.multipart.specs.declared.Progress.{Progress}
 use Rattle.multipart.specs.declared.Assembler.{Assembler}
-use Rattle.multipart.specs.declared.PartAnswer.{PartAnswer}
-use Rattle.multipart.specs.declared.PartAnswer.TheVariants.{More, Message, Refused}
+use Rattle.multipart.specs.Assembler.{PartAnswer}
+use Rattle.multipart.specs.Assembler.{more, message_given}
+use Rattle.wire.specs.Refusals.{refusing}
 
 -- ---- parts one after the other, each finding the assembler as the last left it
 unfoldable pub answers_to : List (List ℕ) → Assembler → List PartAnswer
@@ -23,9 +25,9 @@ after (p ∷ ps) a = after ps (step_of a p).assembler
 
 -- the message that an answer hands out, as it stands in the store at that moment
 abbrev pub handed : PartAnswer → List ℕ → List (List ℕ)
-handed More s = []
-handed (Message n) s = message_of s n ∷ []
-handed (Refused n) s = []
+handed (Ok None) s = []
+handed (Ok (Some n)) s = message_of s n ∷ []
+handed (Err r) s = []
 
 unfoldable pub handed_out : List (List ℕ) → Assembler → List (List ℕ)
 handed_out [] a = []
@@ -46,20 +48,20 @@ ready p = outside p || (eqb p.parts 0 && not p.discarding)
 -- store, whose other bytes are as they were, and nothing is gathered or being discarded
 abbrev pub Delivers : List PartAnswer → List (List ℕ) → List ℕ → Assembler → Type 0
 Delivers early ps message a =
-    Gives ps a (early ++ (Message (length message) ∷ [])) (message ∷ []) (holding fresh_progress (placed 0 message a.store))
+    Gives ps a (early ++ (message_given (length message) ∷ [])) (message ∷ []) (holding fresh_progress (placed 0 message a.store))
 
 -- any cutting by the rules, in an assembler that is ready: 'more' before the last
 abbrev pub Assembles : Type 0
 Assembles =
     (message : List ℕ) (ds : List (List ℕ)) (a : Assembler) → Cuts message ds → ready a.progress ≡ true
-    → Delivers (replicate (length ds - 1) More) (parts ds) message a
+    → Delivers (replicate (length ds - 1) more) (parts ds) message a
 
 -- what the cutter wrote, taken apart after every size + 1 bytes
 abbrev pub CutAssembles : Type 0
 CutAssembles =
-    (size : ℕ) (message room left : List ℕ) (answer : Written) (a : Assembler) → first_broken (cutter_rules size message room) ≡ 0
+    (size : ℕ) (message room left : List ℕ) (answer : Result ℕ Refusal) (a : Assembler) → first_broken (cutter_rules size message room) ≡ 0
     → Stores (cutter_rules size message room) 0 (cut_image size message) room answer left → ready a.progress ≡ true
-    → Delivers (replicate (pieces_before size (length message)) More)
+    → Delivers (replicate (pieces_before size (length message)) more)
     (cut_after (pieces_before size (length message)) (size + 1) (take (length (cut_image size message)) left)) message a
 
 -- ---- from any record whatsoever
@@ -68,19 +70,19 @@ pub record BehindLast (a : Assembler) (bytes : List ℕ) : Type 0 where
   pub fresh_again : (step_of a (255 ∷ bytes)).assembler.progress ≡ fresh_progress
   pub next :
       (message : List ℕ) (ds : List (List ℕ)) → Cuts message ds
-      → Delivers (replicate (length ds - 1) More) (parts ds) message (step_of a (255 ∷ bytes)).assembler
+      → Delivers (replicate (length ds - 1) more) (parts ds) message (step_of a (255 ∷ bytes)).assembler
 
 -- two parts or more come through, with 26 at the first where it cut a message off or ended a discarding; one part, a 255, would end that message or be refused
 abbrev pub Recovers : Type 0
 Recovers =
     (message first second : List ℕ) (ds : List (List ℕ)) (a : Assembler) → Cuts message (first ∷ second ∷ ds)
-    → Delivers (pick (ready a.progress) More (Refused 26) ∷ replicate (length ds) More) (parts (first ∷ second ∷ ds)) message a
+    → Delivers (pick (ready a.progress) more (refusing 26) ∷ replicate (length ds) more) (parts (first ∷ second ∷ ds)) message a
 
 -- while discarding, every counter gets 26, and only a 255 or a kept 0 ends it
 abbrev pub Discards : Type 0
 Discards =
     (a : Assembler) (counter : ℕ) (bytes : List ℕ) → outside a.progress ≡ false → a.progress.discarding ≡ true
-    → ((step_of a (counter ∷ bytes)).answer ≡ Refused 26)
+    → ((step_of a (counter ∷ bytes)).answer ≡ refusing 26)
     × ((step_of a (counter ∷ bytes)).assembler.progress.discarding ≡ not (eqb counter 255 || (eqb counter 0 && leb (length bytes) 500)))
 
 -- ---- many messages

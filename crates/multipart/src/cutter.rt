@@ -5,7 +5,7 @@ ghost use Rattle.std.proofs.lemmas.List.Edits.{sets};
 ghost use Rattle.wire.specs.Writing.{Stores};
 ghost use Rattle.multipart.specs.Cutting.{parts, cut_after, pieces_before, cut_image, cutter_rules};
 
-use wire::Written;
+use wire::Refusal;
 
 // A part at a place of the room.
 fn put_part(counter: u8, bytes: &[u8], at: usize, out: &mut [u8])
@@ -14,7 +14,7 @@ fn put_part(counter: u8, bytes: &[u8], at: usize, out: &mut [u8])
 {
     let next = at + 1;
     out[at] = counter;
-    wire::store(bytes, next, out);
+    let _ = wire::store(bytes, next, out);
 }
 
 // How many parts stand before the last.
@@ -42,25 +42,25 @@ fn put_parts(message: &[u8], size: usize, full: usize, out: &mut [u8])
 // A message as parts, one behind the other at the front of `out`: `size` data bytes in each but the last, which is
 // empty only where the message is, and a counter byte before them. 27 for a message above 500 bytes, 17 where `size` is 0 or more than 256 parts would be
 // needed, then 25; a refusal writes nothing.
-pub fn cut(message: &[u8], size: usize, out: &mut [u8]) -> Written
+pub fn cut(message: &[u8], size: usize, out: &mut [u8]) -> Result<usize, Refusal>
     ensures { Stores (cutter_rules size message.now out.old) 0
         (cut_image size message.now) out.old result out.new }
 {
     let len = message.len();
     if 500 < len {
-        return Written::Refused(27);
+        return Err(Refusal::MessageTooLong);
     }
     if size == 0 {
-        return Written::Refused(17);
+        return Err(Refusal::BadMessageData);
     }
     let full = parts_before(len, size);
     if 255 < full {
-        return Written::Refused(17);
+        return Err(Refusal::BadMessageData);
     }
     let total = len + full + 1;
     if out.len() < total {
-        return Written::Refused(25);
+        return Err(Refusal::NoRoom);
     }
     put_parts(message, size, full, out);
-    Written::Wrote(total)
+    Ok(total)
 }

@@ -9,7 +9,7 @@ ghost use Rattle.multipart.specs.Assembler as specs;
 ghost use Rattle.multipart.specs.Assembler.{TakesPart};
 
 pub use cutter::cut;
-use wire::Part;
+use wire::{Part, Refusal};
 
 #[derive(Clone, Copy)]
 pub struct Progress {
@@ -28,26 +28,18 @@ pub struct Assembler {
     pub store: [u8; 500],
 }
 
-// What a part gives: more is to come, a message of this length at the front of the store, or a refusal's number.
-#[derive(Clone, Copy)]
-pub enum PartAnswer {
-    More,
-    Message(usize),
-    Refused(u8),
-}
-
-// The record after a part, and its answer.
+// The record after a part, and what the part gives: a message of this length at the front of the store, none while more is to come, or a refusal.
 #[derive(Clone, Copy)]
 pub struct Step {
     pub assembler: Assembler,
-    pub answer: PartAnswer,
+    pub answer: Result<Option<usize>, Refusal>,
 }
 
 // The progress after a part, and its answer.
 #[derive(Clone, Copy)]
 pub struct Taken {
     pub progress: Progress,
-    pub answer: PartAnswer,
+    pub answer: Result<Option<usize>, Refusal>,
 }
 
 // So many parts and bytes gathered.
@@ -128,7 +120,7 @@ fn put(store: &mut [u8; 500], at: usize, bytes: &[u8])
     requires { at + length bytes.now ≤ 500 }
     ensures { store.new ≡ placed at bytes.now store.old }
 {
-    wire::store(bytes, at, store);
+    let _ = wire::store(bytes, at, store);
 }
 
 // A 0 that is kept as a first part.
@@ -145,7 +137,7 @@ fn is_first(counter: u8, len: usize) -> bool
 fn out_of_turn(store: &mut [u8; 500], counter: u8, bytes: &[u8]) -> Taken
     ensures { specs.step_to result.progress store.new result.answer ≡ specs.out_of_turn store.old counter bytes.now }
 {
-    let answer = PartAnswer::Refused(26);
+    let answer = Err(Refusal::PartOutOfTurn);
     if counter == 255 {
         return Taken {
             progress: gathered(0, 0),
@@ -169,7 +161,7 @@ fn out_of_turn(store: &mut [u8; 500], counter: u8, bytes: &[u8]) -> Taken
 fn over_long(counter: u8) -> Taken
     ensures { (s : _) → specs.step_to result.progress s result.answer ≡ specs.over_long s counter }
 {
-    let answer = PartAnswer::Refused(27);
+    let answer = Err(Refusal::MessageTooLong);
     if counter != 255 {
         return Taken {
             progress: discarding(),
@@ -192,12 +184,12 @@ fn kept(was: Progress, store: &mut [u8; 500], counter: u8, bytes: &[u8]) -> Take
     if counter == 255 {
         return Taken {
             progress: gathered(0, 0),
-            answer: PartAnswer::Message(total),
+            answer: Ok(Some(total)),
         };
     }
     Taken {
         progress: gathered(was.parts + 1, total),
-        answer: PartAnswer::More,
+        answer: Ok(None),
     }
 }
 
@@ -223,7 +215,7 @@ pub fn take_part(was: Progress, store: &mut [u8; 500], part: &[u8]) -> Taken
     if part.len() == 0 {
         return Taken {
             progress: was,
-            answer: PartAnswer::Refused(7),
+            answer: Err(Refusal::BadLength),
         };
     }
     counted(was.limited(), store, part[0], &part[1..])
@@ -234,14 +226,14 @@ impl Assembler {
     pub fn take_part(self, part: &[u8]) -> Step
         ensures { TakesPart self part.now result.assembler result.answer }
     {
-        let was = self.progress;
         let mut store = self.store;
-        let t = take_part(was, &mut store, part);
-        let progress = t.progress;
-        let answer = t.answer;
+        let taken = take_part(self.progress, &mut store, part);
         Step {
-            assembler: Assembler { progress, store },
-            answer,
+            assembler: Assembler {
+                progress: taken.progress,
+                store,
+            },
+            answer: taken.answer,
         }
     }
 }

@@ -1,16 +1,15 @@
 -- An opener's answer as one number, for programs in other languages; and what else the opener is given.
-use Rattle.std.specs.Prelude.{ℕ, ◌+◌, ◌*◌, ◌%◌, ◌≡◌, true, false, List, length}
+use Rattle.std.specs.Prelude.{ℕ, ◌+◌, ◌*◌, ◌%◌, ◌≡◌, true, false, List, length, Some, None, Ok, Err}
 use Rattle.access.specs.declared.Mode.TheVariants.{Normal}
 use Rattle.control.specs.declared.Command.{Command}
 use Rattle.control.specs.declared.Command.TheVariants as command
 use Rattle.message.specs.declared.Message.{Message}
 use Rattle.message.specs.declared.Message.TheVariants as message
 use Rattle.session.specs.Memory.{empty_memory}
-use Rattle.session.specs.Keys.{no_key}
 use Rattle.bridge.specs.Opener.{opened, work_after}
 use Rattle.bridge.specs.declared.Context.{Context}
-use Rattle.bridge.specs.declared.Answer.{Answer}
-use Rattle.bridge.specs.declared.Answer.TheVariants.{Accepted, Refused}
+use Rattle.bridge.specs.Content.{Answer}
+use Rattle.wire.specs.Refusals.{number_of}
 
 -- the low two bytes of each
 unfoldable pub packed : ℕ → ℕ → ℕ → ℕ
@@ -48,8 +47,8 @@ packed_message (message.HubReply f) = packed 1011 f.code f.data.len
 
 -- an answer: the message's number, or the refusal's
 abbrev pub packed_answer : Answer → ℕ
-packed_answer (Accepted m place) = packed_message m
-packed_answer (Refused r) = r.number
+packed_answer (Ok a) = packed_message a.0
+packed_answer (Err r) = number_of r.refusal
 
 -- normal mode, the admin key alone held, encryption not required, no packet nonce remembered
 abbrev pub context_of : List ℕ → List ℕ → ℕ → ℕ → ℕ → Context
@@ -57,7 +56,7 @@ context_of key nonce minutes since time =
     record {
       session = record { held = true; nonce = nonce; timeout = record { 0 = minutes }; since = record { 0 = since }; memory = empty_memory };
       time = record { 0 = time };
-      keys = record { admin = record { held = true; bytes = key }; member = no_key; basic = no_key; setup = no_key };
+      keys = record { admin = Some key; member = None; basic = None; setup = None };
       mode = Normal;
       required = false;
     }

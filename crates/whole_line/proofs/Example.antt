@@ -17,7 +17,6 @@ use Rattle.line.specs.declared.Receiver.{Receiver}
 use Rattle.access.specs.declared.Mode.TheVariants.{Normal}
 use Rattle.session.specs.Memory.{empty_memory, limited, remembered}
 use Rattle.session.specs.Session.{session_there, valid_at}
-use Rattle.session.specs.Keys.{no_key}
 use Rattle.aes.specs.Field.{◌•◌, times, xtime}
 use Rattle.aes.specs.Box.{sub_byte, affine, turned, inverse, powers}
 use Rattle.aes.specs.Cipher.{mixed, rcon, next_key, round_key, from, key_expansion, round, rounds, cipher_under, cipher}
@@ -32,6 +31,8 @@ use Rattle.bridge.specs.declared.Context.{Context}
 use Rattle.whole_line.specs.Listed.{Item, plain, sealed, item_message, SentItem, items, Made, wrapped, line_of, Occasion, Ready, AllDiffer, Opening, openings, AllGive}
 use Rattle.whole_line.specs.Claim.{Read}
 use Rattle.whole_line.proofs.OneWay.{no_line_two_ways}
+use Rattle.session.specs.Keys.{key_bytes}
+use Rattle.std.specs.Prelude.{None}
 
 -- encryption is required; the session was set at 100, for one minute
 abbrev pub g : Context
@@ -42,9 +43,9 @@ g =
       keys =
           record {
             admin = record { held = true; bytes = 1 ∷ 2 ∷ 3 ∷ 4 ∷ 5 ∷ 6 ∷ 7 ∷ 8 ∷ 9 ∷ 10 ∷ 11 ∷ 12 ∷ 13 ∷ 14 ∷ 15 ∷ 16 ∷ [] };
-            member = no_key;
-            basic = no_key;
-            setup = no_key;
+            member = None;
+            basic = None;
+            setup = None;
           };
       mode = Normal;
       required = true;
@@ -101,7 +102,7 @@ made = (
 
 -- one block
 room : 16 * blocks_in (wrapped g third.item) ≤ 20
-room = omega (arith, sealed_blocks g.keys.admin.bytes (0x7E ∷ 8 ∷ 9 ∷ []) g.session.nonce switch refl)
+room = omega (arith, sealed_blocks (key_bytes g.keys.admin) (0x7E ∷ 8 ∷ 9 ∷ []) g.session.nonce switch refl)
 
 ready : Ready g at 0 (items (first ∷ second ∷ third ∷ []))
 unfolding valid_at session_there

@@ -23,7 +23,7 @@ use Rattle.message.specs.declared.Form.TheVariants.{Plain, Encrypted}
 use Rattle.units.specs.declared.Seconds.{Seconds}
 use Rattle.session.specs.Memory.{remembered, in_front}
 use Rattle.session.specs.Session.{session_there, valid_at, session_remembering}
-use Rattle.session.specs.Keys.{key_for}
+use Rattle.session.specs.Keys.{key_for, key_bytes}
 use Rattle.session.specs.declared.Keys.{Keys}
 use Rattle.session.specs.declared.Session.{Session}
 use Rattle.session.proofs.Kept.{session_nonce, session_there_lem, session_valid, session_remembers}
@@ -39,14 +39,15 @@ use Rattle.bridge.proofs.Contents.{message_content_lem}
 use Rattle.bridge.specs.declared.Context.{Context}
 use Rattle.bridge.specs.declared.Opened.{Opened}
 use Rattle.whole_line.specs.Listed.{data_type, Item, plain, sealed, Permitted, Sealable, PermittedItem, wrapper_of, wrapped, Sealed, Framed, Occasion, Fit, remembered_after, Differs, during, Opening, Gives}
+use Rattle.std.specs.Prelude.{is_some}
 
 -- ---- the writers
 inside : (least most n : ℕ) → least ≤ n → n ≤ most → outside least most n ≡ false
 inside least most n h k = simp (le-ltb _ _ h, le-ltb _ _ k)
 
 -- the admin key is held in normal mode
-key_held : (k : Keys) (m : Mode) → m ≡ Normal → k.admin.held ≡ true → (key_for k m Admin).held ≡ true
-key_held k m e h = ap (λ (x : Mode). (key_for k x Admin).held) e ∙ h
+key_held : (k : Keys) (m : Mode) → m ≡ Normal → is_some k.admin ≡ true → is_some (key_for k m Admin) ≡ true
+key_held k m e h = ap (λ (x : Mode). is_some (key_for k x Admin)) e ∙ h
 
 -- 4 + 16n bytes for at most 490
 sealed_fits : (m : List ℕ) → length m ≤ 490 → 4 + 16 * blocks_for (6 + length m) ≤ 507
@@ -55,7 +56,7 @@ sealed_fits m h = omega arith
 pub one_short : (g : Context) (i : Item) → PermittedItem g i → length (wrapped g i) ≤ 507
 one_short g (plain m) ok = ok.long
 one_short g (sealed pn m) ok =
-    omega (arith, sealed_length (admin_key g).bytes pn g.session.nonce m ok.1.three, sealed_fits m ok.0.long)
+    omega (arith, sealed_length (key_bytes (admin_key g)) pn g.session.nonce m ok.1.three, sealed_fits m ok.0.long)
 
 pub one_seals : (g : Context) (i : Item) → PermittedItem g i → Sealed g i
 one_seals g (plain m) ok = tt
@@ -117,13 +118,13 @@ module _ (g : Context) (s : Session) (t : Seconds) where
   unfolding uart_entry_rules session_rules
   asks ns pn m turn ok may valid room h =
       rw (
-        sealed_whole (admin_key g).bytes pn g.session.nonce m may.three ok.long,
+        sealed_whole (key_bytes (admin_key g)) pn g.session.nonce m may.three ok.long,
         le-ltb room (16 * blocks_in (wrapped g (sealed pn m))) h,
-        sealed_id (admin_key g).bytes pn g.session.nonce m may.three,
+        sealed_id (key_bytes (admin_key g)) pn g.session.nonce m may.three,
         key_held g.keys g.mode may.normal may.held,
         turn.there may.there,
         turn.valid t ∙ valid,
-        sealed_number (admin_key g).bytes pn g.session.nonce m may.three,
+        sealed_number (key_bytes (admin_key g)) pn g.session.nonce m may.three,
         turn.remembers,
       )
 
@@ -133,11 +134,11 @@ module _ (g : Context) (s : Session) (t : Seconds) where
     p = wrapped g (sealed pn m)
 
     number_is : nonce_number p ≡ nonce_number pn
-    number_is = sealed_number (admin_key g).bytes pn g.session.nonce m may.three
+    number_is = sealed_number (key_bytes (admin_key g)) pn g.session.nonce m may.three
 
     text_is : uart_text here p ≡ plain_text m
     unfolding uart_text
-    text_is = rw turn.nonce (unsealed (admin_key g).bytes pn g.session.nonce m may.three)
+    text_is = rw turn.nonce (unsealed (key_bytes (admin_key g)) pn g.session.nonce m may.three)
 
     enters : (room : ℕ) → 16 * blocks_in p ≤ room → first_broken (uart_entry_rules here room p) ≡ 0
     enters room h = asks ns pn m turn ok may valid room h ∙ rw differs
@@ -222,5 +223,5 @@ one_same g (plain m) (plain m') a b w p = ap plain p
 one_same g (plain m) (sealed pn' m') a b w p = absurd (omega arith)
 one_same g (sealed pn m) (plain m') a b w p = absurd (omega arith)
 one_same g (sealed pn m) (sealed pn' m') a b w p =
-    let s = same_sealed (admin_key g).bytes g.session.nonce a.1.three b.1.three p in
+    let s = same_sealed (key_bytes (admin_key g)) g.session.nonce a.1.three b.1.three p in
     ap₂ sealed s.0 s.1

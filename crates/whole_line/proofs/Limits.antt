@@ -18,6 +18,7 @@ use Rattle.whole_line.specs.Listed.{Item, plain, sealed, item_message, SentItem,
 use Rattle.whole_line.specs.Claim.{Read}
 use Rattle.whole_line.proofs.Permits.{context_in, permitted_item}
 use Rattle.whole_line.proofs.OneWay.{no_line_two_ways}
+use Rattle.session.specs.Keys.{key_bytes}
 
 abbrev g : Context
 g = context_in Normal true
@@ -69,8 +70,8 @@ ready = (
   (
     tt,
     (
-      (refl, omega (arith, sealed_blocks (admin_key g).bytes (pn 1) g.session.nonce (2 ∷ 0 ∷ 44 ∷ 1 ∷ []) refl)),
-      ((refl, omega (arith, sealed_blocks (admin_key g).bytes (pn 2) g.session.nonce (reply 486) refl)), tt),
+      (refl, omega (arith, sealed_blocks (key_bytes (admin_key g)) (pn 1) g.session.nonce (2 ∷ 0 ∷ 44 ∷ 1 ∷ []) refl)),
+      ((refl, omega (arith, sealed_blocks (key_bytes (admin_key g)) (pn 2) g.session.nonce (reply 486) refl)), tt),
     ),
   ),
 )

@@ -9,8 +9,9 @@ use lib.Dec.{ltb}
 use Rattle.wire.specs.Parts.{part_of}
 use Rattle.wire.specs.Rules.{Rule, ◌when◌, first_broken, verdict}
 use Rattle.wire.specs.Writing.{Writes}
-use Rattle.wire.specs.declared.Written.{Written}
-use Rattle.wire.specs.declared.Written.TheVariants.{Refused}
+use Rattle.std.specs.Prelude.{Result, None}
+use Rattle.wire.specs.declared.refusals.Refusal.{Refusal}
+use Rattle.wire.specs.Refusals.{refusing}
 use Rattle.crc.specs.Crc.{crc_from, crc_byte, crc_bit}
 use Rattle.frame.specs.Image.{image, escape, escape_byte, is_mark}
 use Rattle.frame.specs.Writer.{bad_frame}
@@ -21,7 +22,6 @@ use Rattle.access.specs.declared.Mode.{Mode}
 use Rattle.access.specs.declared.Mode.TheVariants.{Normal, Setup}
 use Rattle.session.specs.Memory.{limited, remembered, remembering}
 use Rattle.session.specs.Session.{session_there, valid_at, no_session, with_nonce, session_remembering}
-use Rattle.session.specs.Keys.{no_key}
 use Rattle.session.specs.declared.Session.{Session}
 use Rattle.session.specs.declared.Keys.{Keys}
 use Rattle.aes.proofs.KeyStream.{length_ctr}
@@ -32,9 +32,10 @@ use Rattle.bridge.specs.Opener.{admin_key, session_rules, uart_entry_rules, uart
 use Rattle.bridge.specs.Opening.{refused_answer, sealed_answer, text_answer}
 use Rattle.bridge.proofs.Opening.{sealed_frame}
 use Rattle.bridge.specs.declared.Context.{Context}
-use Rattle.bridge.specs.declared.Answer.{Answer}
+use Rattle.bridge.specs.Content.{Answer}
 use Rattle.whole_line.specs.Listed.{Item, plain, sealed, SentItem, wrapped, line_of, during}
 use Rattle.whole_line.proofs.Example.{g, hello, reply, switch}
+use Rattle.session.specs.Keys.{key_bytes}
 
 -- what an opening gives, with a time and a room, of an item that was made in the same context
 abbrev pub got : Context → ℕ → ℕ → Item → Answer
@@ -63,12 +64,12 @@ module _ (h : Context) (time room : ℕ) (m : List ℕ) (short : length m ≤ 10
   enters : first_broken (uart_entry_rules here room payload) ≡ first_broken rules
   unfolding uart_entry_rules session_rules
   enters =
-      let n : blocks_in payload ≡ 1 = omega (arith, sealed_blocks (admin_key h).bytes pn h.session.nonce m refl) in
+      let n : blocks_in payload ≡ 1 = omega (arith, sealed_blocks (key_bytes (admin_key h)) pn h.session.nonce m refl) in
       rw (
-        sealed_whole (admin_key h).bytes pn h.session.nonce m refl (omega arith),
+        sealed_whole (key_bytes (admin_key h)) pn h.session.nonce m refl (omega arith),
         n,
-        sealed_id (admin_key h).bytes pn h.session.nonce m refl,
-        sealed_number (admin_key h).bytes pn h.session.nonce m refl,
+        sealed_id (key_bytes (admin_key h)) pn h.session.nonce m refl,
+        sealed_number (key_bytes (admin_key h)) pn h.session.nonce m refl,
       )
 
   answered : (n : ℕ) → first_broken rules ≡ n → got h time room (sealed pn m) ≡ verdict refused_answer n (text_answer here (plain_text m))
@@ -76,7 +77,7 @@ module _ (h : Context) (time room : ℕ) (m : List ℕ) (short : length m ≤ 10
   answered n e =
       sym (sealed_frame here room payload)
       ∙ ap (λ (i : ℕ). verdict refused_answer i (text_answer here (uart_text here payload))) (enters ∙ e)
-      ∙ ap (λ (l : List ℕ). verdict refused_answer n (text_answer here l)) (unsealed (admin_key h).bytes pn h.session.nonce m refl)
+      ∙ ap (λ (l : List ℕ). verdict refused_answer n (text_answer here l)) (unsealed (key_bytes (admin_key h)) pn h.session.nonce m refl)
 
 entered : (h : Context) (time room n : ℕ) → first_broken (rules h time room switch (omega arith) (omega arith)) ≡ suc n → got h time room one ≡ refused_answer (suc n)
 entered h time room n e = answered h time room switch (omega arith) (omega arith) (suc n) e
@@ -85,7 +86,7 @@ abbrev with : Session → Keys → Mode → Context
 with s k m = record { session = s; time = g.time; keys = k; mode = m; required = g.required }
 
 abbrev no_keys : Keys
-no_keys = record { admin = no_key; member = no_key; basic = no_key; setup = no_key }
+no_keys = record { admin = None; member = None; basic = None; setup = None }
 
 -- room one byte short; no admin key; setup mode; no session; the session run out; a clock behind
 pub short_room : got g 159 15 one ≡ refused_answer 25
@@ -120,7 +121,7 @@ nonce_again = entered (with (session_remembering g.session (nonce_number pn)) g.
 -- a packet nonce of two bytes: the payload has 19, and gets 7
 two_bytes : length (wrapped g (sealed (8 ∷ 9 ∷ []) switch)) ≡ 19
 unfolding sealed_image enveloped
-two_bytes = omega (arith, length_ctr g.keys.admin.bytes (8 ∷ 9 ∷ []) g.session.nonce (plain_text switch), length_plain switch)
+two_bytes = omega (arith, length_ctr (key_bytes g.keys.admin) (8 ∷ 9 ∷ []) g.session.nonce (plain_text switch), length_plain switch)
 
 pub nonce_of_two : got g 159 16 (sealed (8 ∷ 9 ∷ []) switch) ≡ refused_answer 7
 unfolding uart_entry_rules sealed_answer wrong_length
@@ -132,18 +133,18 @@ nonce_of_two =
 
 -- ---- the limits
 -- a plain message above 507 bytes, and an encrypted one above 490 or below 2: 17 from its writer, whatever the room
-pub too_long : (m room after : List ℕ) (answer : Written) → length m ≡ 508 → Writes (bad_frame 0 (length m)) (image 0 m) room answer after → answer ≡ Refused 17
+pub too_long : (m room after : List ℕ) (answer : Result ℕ Refusal) → length m ≡ 508 → Writes (bad_frame 0 (length m)) (image 0 m) room answer after → answer ≡ refusing 17
 unfolding bad_frame
 too_long m room after answer e w = w.answers ∙ rw e refl
 
-pub too_long_sealed : (m image room after : List ℕ) (answer : Written) → length m ≡ 491 → Seals (admin_key g) (outside 2 490 (length m)) image room answer after → answer ≡ Refused 17
+pub too_long_sealed : (m image room after : List ℕ) (answer : Result ℕ Refusal) → length m ≡ 491 → Seals (admin_key g) (outside 2 490 (length m)) image room answer after → answer ≡ refusing 17
 too_long_sealed m image room after answer e w = w.answers ∙ rw e refl
 
-pub too_short_sealed : (m image room after : List ℕ) (answer : Written) → length m ≡ 1 → Seals (admin_key g) (outside 2 490 (length m)) image room answer after → answer ≡ Refused 17
+pub too_short_sealed : (m image room after : List ℕ) (answer : Result ℕ Refusal) → length m ≡ 1 → Seals (admin_key g) (outside 2 490 (length m)) image room answer after → answer ≡ refusing 17
 too_short_sealed m image room after answer e w = w.answers ∙ rw e refl
 
 -- room one byte short: 25
-pub short_frame_room : (room after : List ℕ) (answer : Written) → length room ≡ 10 → Writes (bad_frame 0 3) (image 0 hello) room answer after → answer ≡ Refused 25
+pub short_frame_room : (room after : List ℕ) (answer : Result ℕ Refusal) → length room ≡ 10 → Writes (bad_frame 0 3) (image 0 hello) room answer after → answer ≡ refusing 25
 unfolding bad_frame escape escape_byte is_mark crc_from crc_byte crc_bit
 short_frame_room room after answer e w = w.answers ∙ rw e refl
 

@@ -17,10 +17,10 @@ use Rattle.message.specs.declared.Form.{Form}
 use Rattle.message.specs.declared.Form.TheVariants.{Plain, Encrypted}
 use Rattle.session.specs.Memory.{empty_memory}
 use Rattle.session.specs.Session.{session_there}
-use Rattle.session.specs.Keys.{no_key}
 use Rattle.bridge.specs.declared.Context.{Context}
 use Rattle.whole_line.specs.Listed.{Item, plain, sealed, item_message, data_type, Permitted, PermittedItem}
 use Rattle.whole_line.specs.Bench.{packet_of}
+use Rattle.std.specs.Prelude.{Some, None, is_some}
 
 -- an admin key and a session, a mode, and whether encryption is required
 abbrev pub context_in : Mode → Bool → Context
@@ -28,7 +28,7 @@ context_in mode required =
     record {
       session = record { held = true; nonce = replicate 5 1; timeout = record { 0 = 1 }; since = record { 0 = 100 }; memory = empty_memory };
       time = record { 0 = 159 };
-      keys = record { admin = record { held = true; bytes = replicate 16 1 }; member = no_key; basic = no_key; setup = no_key };
+      keys = record { admin = Some (replicate 16 1); member = None; basic = None; setup = None };
       mode = mode;
       required = required;
     }
@@ -102,7 +102,7 @@ is_normal Setup = false
 abbrev may : Context → Item → Bool
 may g (plain m) = fits g Plain 507 m
 may g (sealed n m) =
-    fits g Encrypted 490 m && (is_normal g.mode && (g.keys.admin.held && (session_there g.session && eqb (length n) 3)))
+    fits g Encrypted 490 m && (is_normal g.mode && (is_some g.keys.admin && (session_there g.session && eqb (length n) 3)))
 
 permitted : (g : Context) (f : Form) (most : ℕ) (m : List ℕ) → fits g f most m ≡ true → Permitted g f most m
 permitted g f most m e =
@@ -125,7 +125,7 @@ permitted_item g (plain m) e = permitted g Plain 507 m e
 permitted_item g (sealed n m) e =
     let a = and_holds (fits g Encrypted 490 m) _ e in
     let b = and_holds (is_normal g.mode) _ a.1 in
-    let c = and_holds g.keys.admin.held _ b.1 in
+    let c = and_holds is_some g.keys.admin _ b.1 in
     let d = and_holds (session_there g.session) _ c.1 in
     (permitted g Encrypted 490 m a.0, record { normal = normal g.mode b.0; held = c.0; there = d.0; three = eqb-true (length n) 3 d.1 })
 

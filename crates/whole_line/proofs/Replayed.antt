@@ -20,7 +20,7 @@ use Rattle.bridge.specs.Opener.{admin_key, uart_entry_rules, uart_text}
 use Rattle.bridge.specs.Opening.{refused_answer, text_answer, sealed_answer}
 use Rattle.bridge.proofs.Opening.{sealed_opened_lem}
 use Rattle.bridge.specs.declared.Context.{Context}
-use Rattle.bridge.specs.declared.Answer.{Answer}
+use Rattle.bridge.specs.Content.{Answer}
 use Rattle.bridge.specs.declared.Opened.{Opened}
 use Rattle.whole_line.specs.Listed.{Item, sealed, SentItem, items, PermittedItem, Made, wrapped, line_of, on_line, Occasion, Fit, Ready, remembered_after, AllDiffer, during, Opening, openings}
 use Rattle.whole_line.specs.Claim.{Read}
@@ -28,6 +28,7 @@ use Rattle.whole_line.proofs.Items.{AtTurn, asks, at_start_lem, opened_item, one
 use Rattle.whole_line.proofs.OneWay.{no_line_two_ways, handed, skip}
 use Rattle.whole_line.proofs.Permits.{context_in, permitted_item}
 use Rattle.whole_line.proofs.Example.{switch}
+use Rattle.session.specs.Keys.{key_bytes}
 
 -- ---- the last message of a list has a packet nonce that is remembered at its turn
 abbrev remembered_behind : List ℕ → List Item → List ℕ
@@ -107,7 +108,7 @@ permitted n = permitted_item g (sealed (pn n) switch) refl
 
 fit : (n k : ℕ) → Fit g (at k) (sealed (pn n) switch)
 unfolding valid_at session_there
-fit n k = (refl, omega (arith, sealed_blocks (admin_key g).bytes (pn n) g.session.nonce switch refl))
+fit n k = (refl, omega (arith, sealed_blocks (key_bytes (admin_key g)) (pn n) g.session.nonce switch refl))
 
 made : (ns : List ℕ) → Made g (sent_all ns)
 made [] = tt

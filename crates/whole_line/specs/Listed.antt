@@ -1,11 +1,12 @@
 -- The list of demand 3: messages in their forms, which of them are permitted, the line that they make, and the openings.
-use Rattle.std.specs.Prelude.{ℕ, suc, ◌*◌, ◌≤◌, ◌≡◌, true, false, List, [], ◌∷◌, length, take}
+use Rattle.std.specs.Prelude.{ℕ, suc, ◌*◌, ◌≤◌, ◌≡◌, true, false, List, [], ◌∷◌, length, take, is_some}
 use Rattle.wire.specs.Numbers.{num}
 use Rattle.wire.specs.Rules.{first_broken, among}
 use Rattle.wire.specs.Content.{accepted}
 use Rattle.wire.specs.Writing.{Writes}
-use Rattle.wire.specs.declared.Written.{Written}
-use Rattle.wire.specs.declared.Written.TheVariants.{Wrote}
+use Rattle.std.specs.Prelude.{Result}
+use Rattle.wire.specs.declared.refusals.Refusal.{Refusal}
+use Rattle.std.specs.Prelude.{Ok}
 use Rattle.frame.specs.Image.{image}
 use Rattle.frame.specs.Writer.{bad_frame}
 use Rattle.line.specs.Line as line
@@ -22,7 +23,8 @@ use Rattle.envelope.specs.Sealed.{sealed_image}
 use Rattle.bridge.specs.Content.{answer_content}
 use Rattle.bridge.specs.Opener.{admin_key, opened, work_after}
 use Rattle.bridge.specs.declared.Context.{Context}
-use Rattle.bridge.specs.declared.Answer.{Answer}
+use Rattle.bridge.specs.Content.{Answer}
+use Rattle.session.specs.Keys.{key_bytes}
 
 -- ---- the list
 -- a message in its form: plain, or encrypted with a packet nonce
@@ -59,7 +61,7 @@ pub record Permitted (g : Context) (f : Form) (most : ℕ) (m : List ℕ) : Type
 -- what an encrypted one asks besides: normal mode, the admin key held, a session there; a packet nonce has three bytes
 pub record Sealable (g : Context) (pn : List ℕ) : Type 0 where
   pub normal : g.mode ≡ Normal
-  pub held : g.keys.admin.held ≡ true
+  pub held : is_some g.keys.admin ≡ true
   pub there : session_there g.session ≡ true
   pub three : length pn ≡ 3
 
@@ -80,7 +82,7 @@ wrapper_of (sealed pn m) = 128
 -- the sealer gets that session's nonce
 abbrev pub wrapped : Context → Item → List ℕ
 wrapped g (plain m) = m
-wrapped g (sealed pn m) = sealed_image (admin_key g).bytes pn g.session.nonce m
+wrapped g (sealed pn m) = sealed_image (key_bytes (admin_key g)) pn g.session.nonce m
 
 -- what is put on the line
 abbrev pub on_line : Context → List SentItem → List line.SentFrame
@@ -94,15 +96,15 @@ line_of g ts = line.line_of (on_line g ts)
 abbrev pub Sealed : Context → Item → Type 0
 Sealed g (plain m) = Unit {0}
 Sealed g (sealed pn m) =
-    (room after : List ℕ) (answer : Written) → length (wrapped g (sealed pn m)) ≤ length room
+    (room after : List ℕ) (answer : Result ℕ Refusal) → length (wrapped g (sealed pn m)) ≤ length room
     → Seals (admin_key g) (outside 2 490 (length m)) (wrapped g (sealed pn m)) room answer after
-    → (answer ≡ Wrote (length (wrapped g (sealed pn m)))) × (take (length (wrapped g (sealed pn m))) after ≡ wrapped g (sealed pn m))
+    → (answer ≡ Ok (length (wrapped g (sealed pn m)))) × (take (length (wrapped g (sealed pn m))) after ≡ wrapped g (sealed pn m))
 
 abbrev pub Framed : Context → Item → Type 0
 Framed g i =
-    (room after : List ℕ) (answer : Written) → length (image (wrapper_of i) (wrapped g i)) ≤ length room
+    (room after : List ℕ) (answer : Result ℕ Refusal) → length (image (wrapper_of i) (wrapped g i)) ≤ length room
     → Writes (bad_frame (wrapper_of i) (length (wrapped g i))) (image (wrapper_of i) (wrapped g i)) room answer after
-    → (answer ≡ Wrote (length (image (wrapper_of i) (wrapped g i)))) × (take (length (image (wrapper_of i) (wrapped g i))) after ≡ image (wrapper_of i) (wrapped g i))
+    → (answer ≡ Ok (length (image (wrapper_of i) (wrapped g i)))) × (take (length (image (wrapper_of i) (wrapped g i))) after ≡ image (wrapper_of i) (wrapped g i))
 
 abbrev pub AllWritten : Context → List Item → Type 0
 AllWritten g [] = Unit {0}
