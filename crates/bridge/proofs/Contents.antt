@@ -118,6 +118,20 @@ command_content_lem k level text frame rest clear =
     (ap (command_content (command_at q)) (message_part (text ++ rest) q 4 5 (omega (arith, l)) (packet_in_text text rest (held (characteristic_rules v text) (tt, (tt, (tt, tt))) h.0).1.0))
     ∙ packet_content q k.mode a (rw (eq-eqb _ _ l) h.1))
 
+-- ---- each number is a refusal's
+pub frame_listed : (g : Context) (room major wrapper : ℕ) (p : List ℕ) → Listed (uart_open_rules g room major wrapper p)
+unfolding uart_open_rules uart_entry_rules session_rules uart_text_rules late_rules plain_rules
+frame_listed g room major wrapper p =
+    let entry = uart_entry_rules g room p ++ uart_text_rules g (uart_text g p) in
+    listed_append (head_rules major wrapper) (pick (eqb wrapper 128) entry (plain_rules g p)) (tt, (tt, tt))
+    (listed_pick (eqb wrapper 128) entry (plain_rules g p)
+    (tt, (tt, (tt, (tt, (tt, (tt, (tt, (tt, message_listed Encrypted g.required g.mode (message_in (uart_text g p))))))))))
+    (tt, message_listed Plain g.required g.mode p))
+
+pub packet_listed : (k : Link) (room : ℕ) (p : List ℕ) → Listed (packet_open_rules k room p)
+unfolding packet_open_rules packet_entry_rules connection_rules packet_text_rules characteristic_rules
+packet_listed k room p = (tt, (tt, (tt, (tt, (tt, (tt, (tt, (tt, (tt, (tt, (tt, (tt, (tt, (tt, tt))))))))))))))
+
 -- ---- a frame
 plain_content : (g : Context) (p work : List ℕ) → first_broken (plain_rules g p) ≡ 0 → answer_content (accepted_message false 0 p) p work ≡ accepted (table_content p)
 unfolding plain_rules
@@ -148,23 +162,13 @@ module _ (g : Context) (major wrapper : ℕ) (p work : List ℕ) where
       (message_in_text t (drop (16 * blocks_in p) work) (held (late_rules t) (tt, (tt, tt)) z.0).1.0)
   accepted_content false e = plain_content g p work (none_append (head_rules major wrapper) (plain_rules g p) e).1
 
-  -- each number is a refusal's
-  frame_listed : Listed (uart_open_rules g (length work) major wrapper p)
-  unfolding uart_open_rules uart_entry_rules session_rules uart_text_rules late_rules plain_rules
-  frame_listed =
-      let entry = uart_entry_rules g (length work) p ++ uart_text_rules g (uart_text g p) in
-      listed_append (head_rules major wrapper) (pick (eqb wrapper 128) entry (plain_rules g p)) (tt, (tt, tt))
-      (listed_pick (eqb wrapper 128) entry (plain_rules g p)
-      (tt, (tt, (tt, (tt, (tt, (tt, (tt, (tt, message_listed Encrypted g.required g.mode (message_in (uart_text g p))))))))))
-      (tt, message_listed Plain g.required g.mode p))
-
   opened_content : answer_content (answer_of g (length work) major wrapper p) p (work_after g major wrapper p work)
       ≡ judge (λ n. refused (uart_given n)) (uart_open_rules g (length work) major wrapper p) (accepted (table_content (message_opened g wrapper p)))
   unfolding answer_of work_after uart_open_rules
   opened_content =
       judge_numbered (λ (a : Answer). answer_content a p (work_after g major wrapper p work)) refused_answer (λ n. refused (uart_given n)) (uart_open_rules g (length work) major wrapper p)
       (pick (eqb wrapper 128) (accepted_message true 6 (message_in (uart_text g p))) (accepted_message false 0 p)) (accepted (table_content (message_opened g wrapper p)))
-      frame_listed (λ n e. ap refused (entry_given entry_of n e)) (accepted_content (eqb wrapper 128))
+      (frame_listed g (length work) major wrapper p) (λ n e. ap refused (entry_given entry_of n e)) (accepted_content (eqb wrapper 128))
 
   -- the promise, from the equations by cases
   pub opens_frame : {r : Opened} {after : List ℕ} → r ≡ opened g (length work) major wrapper p → after ≡ work_after g major wrapper p work
@@ -179,10 +183,6 @@ module _ (g : Context) (major wrapper : ℕ) (p work : List ℕ) where
 
 -- ---- a packet
 module _ (k : Link) (p work : List ℕ) where
-  packet_listed : Listed (packet_open_rules k (length work) p)
-  unfolding packet_open_rules packet_entry_rules connection_rules packet_text_rules characteristic_rules
-  packet_listed = (tt, (tt, (tt, (tt, (tt, (tt, (tt, (tt, (tt, (tt, (tt, (tt, (tt, (tt, tt))))))))))))))
-
   packet_opened : command_answer_content (characteristic_answer_of k (length work) p) p (characteristic_work_after k p work)
       ≡ judge (λ n. refused (characteristic_given n)) (packet_open_rules k (length work) p) (accepted (control_content (packet_in (packet_text k p))))
   unfolding characteristic_answer_of characteristic_work_after packet_open_rules
@@ -191,7 +191,7 @@ module _ (k : Link) (p work : List ℕ) where
       let rules = packet_text_rules k (get_or p 3 0) t in
       judge_numbered (λ (a : CommandAnswer). command_answer_content a p (characteristic_work_after k p work)) refused_command (λ n. refused (characteristic_given n)) (packet_open_rules k (length work) p)
       (accepted_command t) (accepted (control_content (packet_in t)))
-      packet_listed (λ n e. ap refused (entry_given characteristic_entry_of n e))
+      (packet_listed k (length work) p) (λ n e. ap refused (entry_given characteristic_entry_of n e))
       (λ e.
       let x = none_append (packet_entry_rules k (length work) p) rules e in
       let w : characteristic_work_after k p work ≡ t ++ drop (16 * blocks_in p) work =

@@ -14,7 +14,7 @@ use Rattle.aes.specs.Inverse.{SixteenBytes}
 use Rattle.aes.proofs.Bytes.{listed_bytes}
 use Rattle.control.specs.Control.{command_at, read_control}
 use Rattle.std.specs.Prelude.{Ok, None, is_some, Option, Some}
-use Rattle.session.specs.Keys.{no_key, key_for, key_bytes}
+use Rattle.session.specs.Keys.{key_for, key_bytes}
 use Rattle.session.specs.Memory.{limited, remembered}
 use Rattle.session.specs.Session.{memory_after, no_connection, connection_there}
 use Rattle.session_data.specs.SessionData.{data_key}

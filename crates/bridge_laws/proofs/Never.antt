@@ -11,7 +11,9 @@ use Rattle.wire.specs.Rules.{◌when◌, first_broken, numbers, among}
 use Rattle.wire.proofs.Choice.{true_false, or_fails}
 use Rattle.wire.proofs.Held.{held}
 use Rattle.wire.proofs.Lookup.{NoneOf}
-use Rattle.wire.proofs.Given.{never, past_first, number_given}
+use Rattle.wire.proofs.Listed.{number_listed}
+use Rattle.bridge.proofs.Contents.{frame_listed, packet_listed}
+use Rattle.wire.proofs.Given.{never, past_first}
 use Rattle.access.specs.declared.Mode.{Mode}
 use Rattle.access.specs.declared.Mode.TheVariants.{Normal, Setup}
 use Rattle.access.specs.declared.Level.TheVariants.{Admin}
@@ -78,8 +80,8 @@ module _ (g : Context) (room : ℕ) (p : List ℕ) where
   pub frame_number : (major wrapper : ℕ) → refusal_number (opened g room major wrapper p).answer ≡ first_broken (uart_open_rules g room major wrapper p)
   unfolding opened answer_of
   frame_number major wrapper =
-      number_given refusal_number refused_answer (uart_open_rules g room major wrapper p)
-      (pick (eqb wrapper 128) (accepted_message true 6 (message_in (uart_text g p))) (accepted_message false 0 p)) (λ n. refl) (zero (eqb wrapper 128))
+      number_listed refusal_number refused_answer (uart_open_rules g room major wrapper p)
+      (pick (eqb wrapper 128) (accepted_message true 6 (message_in (uart_text g p))) (accepted_message false 0 p)) (frame_listed g room major wrapper p) (λ n e. e) (zero (eqb wrapper 128))
     where
       zero : (b : Bool) → refusal_number (pick b (accepted_message true 6 (message_in (uart_text g p))) (accepted_message false 0 p)) ≡ 0
       zero true = refl
@@ -93,7 +95,8 @@ module _ (g : Context) (room : ℕ) (p : List ℕ) where
 -- ---- a characteristic packet: 5, 6, 9, 12 and 14 to 17 never
 pub packet_number : (k : Link) (room : ℕ) (p : List ℕ) → refusal_number (characteristic_opened k room p).answer ≡ first_broken (packet_open_rules k room p)
 unfolding characteristic_opened characteristic_answer_of
-packet_number k room p = number_given refusal_number refused_command (packet_open_rules k room p) (accepted_command (packet_text k p)) (λ n. refl) refl
+packet_number k room p =
+    number_listed refusal_number refused_command (packet_open_rules k room p) (accepted_command (packet_text k p)) (packet_listed k room p) (λ n e. e) refl
 
 pub packet_never : (k : Link) (room : ℕ) (p : List ℕ)
     → NoneOf (5 ∷ 6 ∷ 9 ∷ 12 ∷ 14 ∷ 15 ∷ 16 ∷ 17 ∷ []) (refusal_number (characteristic_opened k room p).answer)

@@ -41,6 +41,7 @@ use Rattle.control.specs.Control.{command_rules}
 use Rattle.access.specs.Level.{level_of}
 use Rattle.bridge_laws.proofs.Never.{frame_number, packet_number}
 use Rattle.std.specs.Prelude.{is_some}
+use Rattle.wire.specs.Refusals.{number_of, refusal_of}
 
 -- ---- what comes of a packet nonce that is remembered
 -- 7, 25, 10, 9 and 28, by what applies before 28; no 9 on the characteristic
@@ -54,14 +55,14 @@ some_given false false true d e = omega arith
 some_given false false false true e = omega arith
 some_given false false false false e = omega arith
 
-one_of_five : (a b c d : Bool) → among (given a b c d) (7 ∷ 25 ∷ 10 ∷ 9 ∷ 28 ∷ []) ≡ true
+one_of_five : (a b c d : Bool) → among (number_of (refusal_of (given a b c d))) (7 ∷ 25 ∷ 10 ∷ 9 ∷ 28 ∷ []) ≡ true
 one_of_five true b c d = refl
 one_of_five false true c d = refl
 one_of_five false false true d = refl
 one_of_five false false false true = refl
 one_of_five false false false false = refl
 
-one_of_four : (a b c : Bool) → among (given a b c false) (7 ∷ 25 ∷ 10 ∷ 28 ∷ []) ≡ true
+one_of_four : (a b c : Bool) → among (number_of (refusal_of (given a b c false))) (7 ∷ 25 ∷ 10 ∷ 28 ∷ []) ≡ true
 one_of_four true b c = refl
 one_of_four false true c = refl
 one_of_four false false true = refl

@@ -8,7 +8,7 @@ use Rattle.multipart.specs.Cutting.{parts}
 use Rattle.multipart.specs.Assembler.{message_of}
 use Rattle.multipart.specs.Delivery.{after, Delivers}
 use Rattle.multipart.specs.declared.Assembler.{Assembler}
-use Rattle.multipart.specs.declared.PartAnswer.TheVariants.{More}
+use Rattle.multipart.specs.Assembler.{more}
 use Rattle.bridge.specs.Place.{place_from}
 use Rattle.bridge.specs.Content.{command_answer_content}
 use Rattle.bridge.specs.Characteristic.{OpensPacket}
@@ -22,7 +22,7 @@ assembled ds a len = message_of (after (parts ds) a).store len
 
 pub record OpensAssembled (packet : List ℕ) (ds : List (List ℕ)) (a : Assembler) : Type 0 where
   -- the last part gives the packet, those before it nothing yet
-  pub delivers : Delivers (replicate (length ds - 1) More) (parts ds) packet a
+  pub delivers : Delivers (replicate (length ds - 1) more) (parts ds) packet a
   pub same : assembled ds a (length packet) ≡ packet
   -- so what the opener promises of what was assembled it promises of the packet that was cut: the answer, the connection, the work buffer
   pub opens :
@@ -31,7 +31,7 @@ pub record OpensAssembled (packet : List ℕ) (ds : List (List ℕ)) (a : Assemb
 
 -- a packet that we sealed, in any cutting: given a work buffer for its blocks it is opened as its command, with the fields and bytes that the table reads
 pub record OpensSealed (k : Link) (level : Level) (pn packet : List ℕ) (ds : List (List ℕ)) (a : Assembler) : Type 0 where
-  pub delivers : Delivers (replicate (length ds - 1) More) (parts ds) (packet_sealed k level pn packet) a
+  pub delivers : Delivers (replicate (length ds - 1) more) (parts ds) (packet_sealed k level pn packet) a
   pub opens :
       (work left : List ℕ) (r : OpenedCommand) → 16 * blocks_in (packet_sealed k level pn packet) ≤ length work
       → OpensPacket k (assembled ds a (length (packet_sealed k level pn packet))) work r left

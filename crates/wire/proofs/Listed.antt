@@ -109,3 +109,12 @@ judge_numbered f refuse refuse' rules good good' l r g = go (first_broken rules)
     go : (n : ℕ) → first_broken rules ≡ n → f (verdict refuse n good) ≡ verdict refuse' n good'
     go zero e = g e
     go (suc n) e = r (suc n) (first_listed rules l n e)
+
+-- the number that an answer gives, 0 for a good one, is the first broken rule's
+pub number_listed : {A : Type 0} (number : A → ℕ) (refuse : ℕ → A) (rules : List Rule) (good : A) → Listed rules
+    → ((n : ℕ) → number_of (refusal_of n) ≡ n → number (refuse n) ≡ n) → number good ≡ 0 → number (judge refuse rules good) ≡ first_broken rules
+number_listed number refuse rules good l r g = go (first_broken rules) refl
+  where
+    go : (n : ℕ) → first_broken rules ≡ n → number (verdict refuse n good) ≡ n
+    go zero e = g
+    go (suc n) e = r (suc n) (first_listed rules l n e)
