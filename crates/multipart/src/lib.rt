@@ -76,19 +76,11 @@ pub fn fresh() -> Assembler
 
 impl Progress {
     // Counts outside the limits.
+    #[tactic(auto, unfolding(crate::specs::Assembler::outside))]
     fn outside(self) -> bool
         ensures { result ≡ specs.outside self }
     {
-        if 255 < self.parts {
-            return true;
-        }
-        if 500 < self.bytes {
-            return true;
-        }
-        if self.parts == 0 {
-            return 0 < self.bytes;
-        }
-        false
+        255 < self.parts || 500 < self.bytes || (self.parts == 0 && 0 < self.bytes)
     }
 
     // A record whose counts lie outside the limits is taken as fresh.
@@ -102,16 +94,11 @@ impl Progress {
     }
 
     // Whether a counter is in turn.
+    #[tactic(auto, unfolding(crate::specs::Assembler::in_turn))]
     fn in_turn(self, counter: u8) -> bool
         ensures { result ≡ specs.in_turn self counter }
     {
-        if self.discarding {
-            return false;
-        }
-        if counter == 255 {
-            return true;
-        }
-        wire::wide(counter) == self.parts
+        !self.discarding && (counter == 255 || wire::wide(counter) == self.parts)
     }
 }
 
@@ -127,10 +114,7 @@ fn put(store: &mut [u8; 500], at: usize, bytes: &[u8])
 fn is_first(counter: u8, len: usize) -> bool
     ensures { result ≡ (eqb counter 0 && leb len 500) }
 {
-    if counter == 0 {
-        return len <= 500;
-    }
-    false
+    counter == 0 && len <= 500
 }
 
 // A part out of turn.

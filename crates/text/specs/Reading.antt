@@ -1,5 +1,5 @@
 -- A text cut at a separator, and what its fields stand for.
-use Rattle.std.specs.Prelude.{ℕ, zero, suc, ◌+◌, ◌*◌, ◌-◌, ◌^◌, ◌≤◌, ◌≡◌, refl, ◌&&◌, List, [], ◌∷◌, ◌++◌, length, take, drop, eqb, ltb, leb}
+use Rattle.std.specs.Prelude.{ℕ, zero, suc, ◌+◌, ◌*◌, ◌-◌, ◌^◌, ◌≡◌, refl, ◌&&◌, List, [], ◌∷◌, ◌++◌, eqb, ltb, leb}
 use Rattle.wire.specs.Choice.{pick}
 
 -- what stands before the first separator: everything where there is none
@@ -60,13 +60,6 @@ fields_from k (suc n) s = repeated (field 43 k s) ++ fields_from (suc k) n s
 -- the bytes that a text lists, with + between the fields: 0709+00*96+11
 abbrev pub listed : List ℕ → List ℕ
 listed s = fields_from 0 (suc (count 43 s)) s
-
--- the first separator from a place on, or the end
-pub record Finds (s : List ℕ) (from sep r : ℕ) : Type 0 where
-  pub forward : from ≤ r
-  pub within : r ≤ length s
-  pub front : before sep (drop from s) ≡ take (r - from) (drop from s)
-  pub rest : behind sep (drop from s) ≡ drop (r + 1) s
 
 -- ---- 07+00*3+af, and its second field
 example_listed : listed (48 ∷ 55 ∷ 43 ∷ 48 ∷ 48 ∷ 42 ∷ 51 ∷ 43 ∷ 97 ∷ 102 ∷ []) ≡ 0x07 ∷ 0 ∷ 0 ∷ 0 ∷ 0xAF ∷ []

@@ -1,6 +1,5 @@
 // The fields of a line, and what they stand for.
-ghost use Rattle.std.specs.Prelude.{◌≡◌, ◌<◌, ◌≤◌, length, eqb};
-ghost use Rattle.wire.specs.Choice.{pick};
+ghost use Rattle.std.specs.Prelude.{◌≡◌, ◌<◌, ◌≤◌};
 ghost use Rattle.text.specs.Puts.{Puts};
 ghost use Rattle.text.specs.Reading as specs;
 
