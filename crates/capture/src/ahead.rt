@@ -37,6 +37,7 @@ fn next_start(s: &[u8], from: usize) -> usize
         return from;
     }
     let mut i = from;
+    // Not over `as_chunks`: where there is no start byte, that takes 1.4 times as long.
     while 16 <= s.len() - i {
         if any_of(s, i, 0x7E, 0x7E) {
             return line::first_start(s, i);
