@@ -5,23 +5,19 @@ ghost use Rattle.aes.specs.Box.{inverse};
 ghost use Rattle.aes.specs.Cipher.{four};
 ghost use Rattle.aes.specs.Packed.{packed, element, each, two_rows, times_x};
 
-use wire::{read_u32, u32_bytes};
-
 // Two rows of a state, one behind the other.
 pub fn pack(a: [u8; 4], b: [u8; 4]) -> u64
     ensures { result ≡ packed 8 (two_rows a b) }
 {
-    read_u32(&b, 0) as u64 * 4294967296 + read_u32(&a, 0) as u64
+    u64::from_le_bytes([a[0], a[1], a[2], a[3], b[0], b[1], b[2], b[3]])
 }
 
 // The two rows again.
 pub fn unpack(w: u64) -> [[u8; 4]; 2]
     ensures { result ≡ four (element w) ∷ four (λ c. element w (4 + c)) ∷ [] }
 {
-    [
-        u32_bytes((w % 4294967296) as u32),
-        u32_bytes((w / 4294967296) as u32),
-    ]
+    let b = w.to_le_bytes();
+    [[b[0], b[1], b[2], b[3]], [b[4], b[5], b[6], b[7]]]
 }
 
 // Each as a polynomial, times x, modulo x^8 + rest.

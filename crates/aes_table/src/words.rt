@@ -6,13 +6,13 @@ ghost use Rattle.aes.specs.Cipher.{four, to_state, of_state, sub_bytes, shift_ro
 ghost use Rattle.aes_table.specs.Words.{state_of, mixed_column};
 
 use crate::Fast;
-use wire::{read_u32, u32_bytes};
+use wire::u32_bytes;
 
 // The column of four bytes.
 fn word(b: [u8; 4]) -> u32
     ensures { le 4 result ≡ four (λ i. get_or b i 0) }
 {
-    read_u32(&b, 0)
+    u32::from_le_bytes(b)
 }
 
 // A block as a state.

@@ -5,4 +5,4 @@ use Rattle.aes.proofs.packed.pack.Goals as goal
 
 pub returns : goal.returns
 unfolding packed
-returns c = omega (arith, c.read_u32-2.ensures, c.read_u32.ensures)
+returns c = omega (arith, c.from_le_bytes.ensures)
