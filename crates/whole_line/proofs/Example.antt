@@ -32,7 +32,7 @@ use Rattle.whole_line.specs.Listed.{Item, plain, sealed, item_message, SentItem,
 use Rattle.whole_line.specs.Claim.{Read}
 use Rattle.whole_line.proofs.OneWay.{no_line_two_ways}
 use Rattle.session.specs.Keys.{key_bytes}
-use Rattle.std.specs.Prelude.{None}
+use Rattle.std.specs.Prelude.{None, Some}
 
 -- encryption is required; the session was set at 100, for one minute
 abbrev pub g : Context
@@ -42,7 +42,7 @@ g =
       time = record { 0 = 100 };
       keys =
           record {
-            admin = record { held = true; bytes = 1 ∷ 2 ∷ 3 ∷ 4 ∷ 5 ∷ 6 ∷ 7 ∷ 8 ∷ 9 ∷ 10 ∷ 11 ∷ 12 ∷ 13 ∷ 14 ∷ 15 ∷ 16 ∷ [] };
+            admin = Some (1 ∷ 2 ∷ 3 ∷ 4 ∷ 5 ∷ 6 ∷ 7 ∷ 8 ∷ 9 ∷ 10 ∷ 11 ∷ 12 ∷ 13 ∷ 14 ∷ 15 ∷ 16 ∷ []);
             member = None;
             basic = None;
             setup = None;

@@ -125,7 +125,7 @@ permitted_item g (plain m) e = permitted g Plain 507 m e
 permitted_item g (sealed n m) e =
     let a = and_holds (fits g Encrypted 490 m) _ e in
     let b = and_holds (is_normal g.mode) _ a.1 in
-    let c = and_holds is_some g.keys.admin _ b.1 in
+    let c = and_holds (is_some g.keys.admin) _ b.1 in
     let d = and_holds (session_there g.session) _ c.1 in
     (permitted g Encrypted 490 m a.0, record { normal = normal g.mode b.0; held = c.0; there = d.0; three = eqb-true (length n) 3 d.1 })
 
