@@ -9,16 +9,14 @@ ghost use Rattle.aes.specs.Ctr.{ctr_of};
 pub extern "C" fn cloudgraze_aes_expand_key(key: &[u8; 16], keys: &mut [[u8; 16]; 11])
     ensures { keys.new ≡ key_expansion key.now }
 {
-    let expanded = aes::expand_key(*key);
-    *keys = expanded;
+    *keys = aes::expand_key(*key);
 }
 
 #[unsafe(no_mangle)]
 pub extern "C" fn cloudgraze_aes_encrypt_block(keys: &[[u8; 16]; 11], block: &mut [u8; 16])
     ensures { block.new ≡ cipher_under keys.now block.old }
 {
-    let enciphered = aes::encrypt_block(keys, *block);
-    *block = enciphered;
+    *block = aes::encrypt_block(keys, *block);
 }
 
 // Counter mode over 31 blocks, the most that a message has.
@@ -32,5 +30,5 @@ pub extern "C" fn cloudgraze_apply_ctr(
 )
     ensures { out.new ≡ ctr_of key.now packet_nonce.now session_nonce.now src.now }
 {
-    aes::apply_ctr(*key, *packet_nonce, *session_nonce, src, out);
+    let _ = aes::apply_ctr(*key, *packet_nonce, *session_nonce, src, out);
 }

@@ -7,10 +7,10 @@ ghost use Rattle.numbering.specs.Numbering.{packed, packed_command, packed_messa
 
 use access::Mode;
 use aes::block_cipher::BlockCipher;
-use bridge::{Answer, Context};
+use bridge::{Context, Place, Refused};
 use control::Command;
 use message::Message;
-use session::{Key, Keys, NonceMemory, Session};
+use session::{Keys, NonceMemory, Session};
 use units::{Minutes, Seconds};
 use wire::Part;
 
@@ -25,16 +25,10 @@ fn packed_command(c: Command) -> u64
     ensures { result ≡ packed_command c }
 {
     match c {
-        Command::Setup(f) => {
-            let rest = f.rest;
-            pack(1100, f.stone as u64, rest.len as u64)
-        }
+        Command::Setup(f) => pack(1100, f.stone as u64, f.rest.len as u64),
         Command::FactoryReset => pack(1101, 0, 0),
         Command::GetState(f) => pack(1102, f.kind as u64, f.id as u64),
-        Command::SetState(f) => {
-            let value = f.value;
-            pack(1103, f.id as u64, value.len as u64)
-        }
+        Command::SetState(f) => pack(1103, f.id as u64, f.value.len as u64),
         Command::BootloaderVersion => pack(1104, 0, 0),
         Command::UicrData => pack(1105, 0, 0),
         Command::IbeaconConfig(f) => pack(1106, f.timestamp as u64, f.interval as u64),
@@ -43,10 +37,7 @@ fn packed_command(c: Command) -> u64
         Command::NoOperation => pack(1112, 0, 0),
         Command::Disconnect => pack(1113, 0, 0),
         Command::Switch(value) => pack(1120, value as u64, 0),
-        Command::MultiSwitch(f) => {
-            let pairs = f.pairs;
-            pack(1121, f.count as u64, pairs.len as u64)
-        }
+        Command::MultiSwitch(f) => pack(1121, f.count as u64, f.pairs.len as u64),
         Command::RegisterTrackedDevice(f) => pack(1170, f.device as u64, f.token as u64),
         Command::TrackedDeviceHeartbeat(f) => pack(1171, f.device as u64, f.token as u64),
         Command::GetPresence => pack(1172, 0, 0),
@@ -68,20 +59,17 @@ fn packed_message(m: Message) -> u64
         Message::Status(f) => pack(1003, f.kind as u64, f.flags as u64),
         Message::GetMac => pack(1004, 0, 0),
         Message::Control(c) => packed_command(c),
-        Message::HubReply(f) => {
-            let data = f.data;
-            pack(1011, f.code as u64, data.len as u64)
-        }
+        Message::HubReply(f) => pack(1011, f.code as u64, f.data.len as u64),
     }
 }
 
 // An answer as one number: the message's, or the refusal's.
-pub fn packed_answer(a: Answer) -> u64
+pub fn packed_answer(a: Result<(Message, Place), Refused>) -> u64
     ensures { result ≡ packed_answer a }
 {
     match a {
-        Answer::Accepted(m, _) => packed_message(m),
-        Answer::Refused(r) => r.number as u64,
+        Ok((m, _)) => packed_message(m),
+        Err(r) => r.refusal.number() as u64,
     }
 }
 
@@ -99,13 +87,10 @@ pub fn context(key: [u8; 16], nonce: [u8; 5], minutes: u64, since: u64, time: u6
         },
         time: Seconds(time),
         keys: Keys {
-            admin: Key {
-                held: true,
-                bytes: key,
-            },
-            member: Key::none(),
-            basic: Key::none(),
-            setup: Key::none(),
+            admin: Some(key),
+            member: None,
+            basic: None,
+            setup: None,
         },
         mode: Mode::Normal,
         required: false,
@@ -127,7 +112,5 @@ pub fn open<C: BlockCipher>(
 {
     let given = context(*key, *nonce, minutes, since, time);
     let front = wire::part_of(payload, Part { start: 0, len });
-    let opened = bridge::uart::open::<C>(1, 0, 128, front, given, work);
-    let answer = opened.answer;
-    packed_answer(answer)
+    packed_answer(bridge::uart::open::<C>(1, 0, 128, front, given, work).answer)
 }
