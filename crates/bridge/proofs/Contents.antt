@@ -34,7 +34,7 @@ use Rattle.envelope.specs.Characteristic.{characteristic_rules, packet_in}
 use Rattle.envelope.proofs.Unsealed.{holds}
 use Rattle.envelope.proofs.Misfit.{message_in_text, packet_in_text}
 use Rattle.bridge.specs.Reply.{Entry, no_reply, error, code, entry_of, characteristic_entry_of, reply_entry, reply_for}
-use Rattle.bridge.specs.Place.{payload_at}
+use Rattle.bridge.specs.Place.{place_from, payload_at}
 use Rattle.bridge.specs.Content.{Given, Answer, CommandAnswer, uart_given, characteristic_given, answer_content, command_answer_content}
 use Rattle.bridge.specs.Opener.{head_rules, plain_rules, session_rules, uart_entry_rules, uart_text, uart_text_rules, uart_open_rules, accepted_message, answer_of, opened, work_after, message_opened, OpensFrame}
 use Rattle.bridge.specs.Characteristic.{access_for, connection_rules, packet_entry_rules, packet_text, packet_text_rules, packet_open_rules, accepted_command, characteristic_answer_of, characteristic_work_after, characteristic_opened, OpensPacket}
@@ -93,16 +93,22 @@ message_part w m at k some e = go (leb k (length m)) refl
         let z : length m ≤ k = omega arith in
         rw n (part_none w (at + k) ∙ sym (drop_of_length-le m z))
 
+-- where a payload lies, by the slice
+payload_from : (inWork : Bool) (start end : ℕ) (frame work : List ℕ)
+    → payload_at frame work (place_from inWork start end) ≡ part_of (pick inWork work frame) (part start (end - start))
+unfolding payload_at
+payload_from true start end frame work = refl
+payload_from false start end frame work = refl
+
 -- an accepted message gives what the tables read from its bytes
 pub message_content_lem : (g : Context) (f : Form) (inWork : Bool) (at : ℕ) (m frame work : List ℕ) → 2 ≤ length m
     → first_broken (message_rules f g.required g.mode m) ≡ 0 → take (length m) (drop at (pick inWork work frame)) ≡ m
     → answer_content (accepted_message inWork at m) frame work ≡ accepted (table_content m)
-unfolding payload_at
 message_content_lem g f inWork at m frame work short clear e =
     let k : ℕ = parts_at (message_at m) in
     let b : part_of (pick inWork work frame) (part (at + (2 + k)) (at + length m - (at + (2 + k)))) ≡ drop k (drop 2 m) =
     message_part (pick inWork work frame) m at (2 + k) (omega arith) e ∙ sym (drop-drop k 2 m) in
-    ap accepted (ap (message_content (message_at m)) b ∙ (message_holds f g.required g.mode m clear).content)
+    ap accepted (ap (message_content (message_at m)) (payload_from inWork (at + (2 + k)) (at + length m) frame work ∙ b) ∙ (message_holds f g.required g.mode m clear).content)
 
 -- an accepted command gives what the table reads from its packet, which stands behind the validation key
 pub command_content_lem : (k : Link) (level : ℕ) (text frame rest : List ℕ) → first_broken (packet_text_rules k level text) ≡ 0

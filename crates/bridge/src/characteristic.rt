@@ -63,13 +63,7 @@ fn answer_by(end: usize, read: Result<Command, Refusal>) -> Result<(Command, Pla
                 start: 9,
                 len: end - 9,
             };
-            Ok((
-                c,
-                Place {
-                    in_work: true,
-                    part,
-                },
-            ))
+            Ok((c, Place::Work(part)))
         }
         Err(refusal) => Err(characteristic_refused(refusal)),
     }

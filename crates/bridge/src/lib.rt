@@ -49,11 +49,11 @@ pub struct Refused {
     pub reply: Option<Reply>,
 }
 
-// A part of the work buffer, or of the frame's payload.
+// A part of the frame's payload, or of the work buffer.
 #[derive(Clone, Copy)]
-pub struct Place {
-    pub in_work: bool,
-    pub part: Part,
+pub enum Place {
+    Frame(Part),
+    Work(Part),
 }
 
 // The message and where its data lie, or a command's payload: what the parts in the message count from. The session after the frame goes into the next
@@ -72,12 +72,12 @@ pub struct OpenedCommand {
 }
 
 // The payload of what was accepted, plain or deciphered, from the slice that holds it.
+#[tactic(auto, unfolding(crate::specs::Place::payload_at))]
 pub fn payload<'a>(frame: &'a [u8], work: &'a [u8], place: Place) -> &'a [u8]
     ensures { result.now ≡ payload_at frame.now work.now place }
 {
-    if place.in_work {
-        wire::part_of(work, place.part)
-    } else {
-        wire::part_of(frame, place.part)
+    match place {
+        Place::Frame(part) => wire::part_of(frame, part),
+        Place::Work(part) => wire::part_of(work, part),
     }
 }

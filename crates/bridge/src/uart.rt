@@ -59,7 +59,12 @@ fn answer_by(
                 start: begin,
                 len: end.saturating_sub(begin),
             };
-            Ok((m, Place { in_work, part }))
+            let place = if in_work {
+                Place::Work(part)
+            } else {
+                Place::Frame(part)
+            };
+            Ok((m, place))
         }
         Err(refusal) => Err(uart_refused(refusal)),
     }

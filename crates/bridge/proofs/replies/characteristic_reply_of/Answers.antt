@@ -1,5 +1,5 @@
 -- `replies::characteristic_reply_of` meets its contract. Assumes nothing.
-use mathlib.Core.Path.{refl, sym, ◌∙◌}
+use mathlib.Core.Path.{refl}
 use borrow.Author.Tests.{lt-ltb, le-ltb, eq-eqb, ne_eqb}
 use Rattle.bridge.specs.Reply.{characteristic_entry_of}
 use Rattle.bridge.proofs.replies.characteristic_reply_of.Goals.{then-number-lt18-via-then-number-lt18, then-number-lt18-via-else-number-lt18+then-number-eq25}
