@@ -153,6 +153,8 @@ impl BlockCipher for Small {
     }
 }
 
+// ---- by name for callers of this cipher alone: public promises, which `aes_table` keeps under the same names for its own
+
 // The eleven round keys of a key.
 pub fn expand_key(key: [u8; 16]) -> [[u8; 16]; 11]
     ensures { result ≡ key_expansion key }

@@ -54,6 +54,8 @@ impl BlockCipher for Fast {
     }
 }
 
+// ---- by name for callers of this cipher alone: public promises, those of `aes`
+
 // The eleven round keys of a key.
 pub fn expand_key(key: [u8; 16]) -> [[u8; 16]; 11]
     ensures { result ≡ key_expansion key }
