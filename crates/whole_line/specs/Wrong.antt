@@ -4,7 +4,6 @@ use Rattle.std.specs.Prelude.{ℕ, Bool, true, false, not, ◌&&◌, List, [], �
 use Rattle.wire.specs.Choice.{pick}
 use Rattle.frame.specs.Image.{image}
 use Rattle.line.specs.Receive.{holding, step_of}
-use Rattle.line.specs.Line as line
 use Rattle.line.specs.Line.{Emitted, refusal, frame, frame_gives, gives, SentFrame}
 use Rattle.line.specs.declared.Progress.{Progress}
 use Rattle.line.specs.declared.Receiver.{Receiver}

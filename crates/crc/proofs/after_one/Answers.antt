@@ -9,7 +9,6 @@ use Rattle.crc.proofs.after_one.Goals as goal
 
 pub returns : goal.returns
 returns c =
-    let b = c in
-    let a = b.args in
+    let a = c.args in
     ap (λ (k : ℕ). bit_xor (get_or a.once.now k 0) (a.c * 256 % 0x10000)) c.entry-i.ensures.0
-    ∙ by_one a.c a.a (omega arith) (omega arith) a.once.now b.requires
+    ∙ by_one a.c a.a (omega arith) (omega arith) a.once.now c.requires

@@ -9,8 +9,7 @@ use Rattle.crc.proofs.after_two.Goals as goal
 
 pub returns : goal.returns
 returns c =
-    let e = c in
-    let a = e.args in
+    let a = c.args in
     ap₂ (λ (i j : ℕ). bit_xor (get_or a.twice.now i 0) (get_or a.once.now j 0))
     c.entry-i.ensures.0 c.entry-j.ensures.0
-    ∙ by_two a.c a.a (omega arith) (omega arith) a.once.now a.twice.now e.requires.0 e.requires.1 a.b (omega arith)
+    ∙ by_two a.c a.a (omega arith) (omega arith) a.once.now a.twice.now c.requires.0 c.requires.1 a.b (omega arith)

@@ -16,16 +16,14 @@ header-head-requires c = good_length _ _ (sym c.bad_frame.ensures ∙ c.if-bad_f
 
 pub send-requires : goal.send-requires
 send-requires c =
-    let f = c in
-    let l = good_length _ _ (sym f.bad_frame.ensures ∙ c.if-bad_frame.false) in
+    let l = good_length _ _ (sym c.bad_frame.ensures ∙ c.if-bad_frame.false) in
     omega (arith, ap length c.header-head.ensures, ap length c.trailer-tail.ensures, l)
 
 pub returns : goal.returns
 returns c =
-    let f = c in
-    let a = f.args in
+    let a = c.args in
     let p = a.payload.now in
-    let e : bad_frame a.wrapper (length p) ≡ false = sym f.bad_frame.ensures ∙ c.if-bad_frame.false in
+    let e : bad_frame a.wrapper (length p) ≡ false = sym c.bad_frame.ensures ∙ c.if-bad_frame.false in
     let i : sent c.header-head.result p c.trailer-tail.result ≡ image a.wrapper p =
     ap₂ (λ (x y : List ℕ). sent x p y) c.header-head.ensures c.trailer-tail.ensures ∙ sent_image a.wrapper p in
     stores_past 0 (image a.wrapper p) a.out.now 17 (bad_frame a.wrapper (length p)) e (stores_same 0 i c.send.ensures)

@@ -14,13 +14,11 @@ returns-then-not-in_turn c = simp (sym c.in_turn.ensures, c.if-not-in_turn.true)
 pub returns-then-was-bytes : goal.returns-then-was-bytes
 unfolding counted
 returns-then-was-bytes c =
-    let a = c in
-    let g = a.args in
-    simp (sym a.in_turn.ensures, a.if-not-in_turn.false, lt-ltb 500 (g.was.bytes + length g.bytes.now) (omega arith)) (c.over_long.ensures _)
+    let g = c.args in
+    simp (sym c.in_turn.ensures, c.if-not-in_turn.false, lt-ltb 500 (g.was.bytes + length g.bytes.now) (omega arith)) (c.over_long.ensures _)
 
 pub returns : goal.returns
 unfolding counted
 returns c =
-    let a = c in
-    let g = a.args in
-    simp (sym a.in_turn.ensures, a.if-not-in_turn.false, le-ltb 500 (g.was.bytes + length g.bytes.now) (omega arith)) c.kept.ensures
+    let g = c.args in
+    simp (sym c.in_turn.ensures, c.if-not-in_turn.false, le-ltb 500 (g.was.bytes + length g.bytes.now) (omega arith)) c.kept.ensures

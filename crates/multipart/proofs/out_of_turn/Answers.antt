@@ -11,11 +11,9 @@ returns-then-counter-eq255 c = simp (eq-eqb _ _ c.if-counter-eq255.true, c.gathe
 pub returns-then-is_first : goal.returns-then-is_first
 unfolding out_of_turn
 returns-then-is_first c =
-    let a = c in
-    simp (ne_eqb _ _ a.if-counter-eq255.false, sym a.is_first.ensures ∙ a.if-is_first.true, c.put.ensures, c.gathered-then-is_first.ensures)
+    simp (ne_eqb _ _ c.if-counter-eq255.false, sym c.is_first.ensures ∙ c.if-is_first.true, c.put.ensures, c.gathered-then-is_first.ensures)
 
 pub returns : goal.returns
 unfolding out_of_turn
 returns c =
-    let a = c in
-    simp (ne_eqb _ _ a.if-counter-eq255.false, sym a.is_first.ensures ∙ c.if-is_first.false, c.discarding.ensures)
+    simp (ne_eqb _ _ c.if-counter-eq255.false, sym c.is_first.ensures ∙ c.if-is_first.false, c.discarding.ensures)

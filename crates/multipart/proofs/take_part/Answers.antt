@@ -10,5 +10,4 @@ returns-then-part-eq0 c = takes_part _ _ _ _ _ (simp (eq-eqb _ _ c.if-part-eq0.t
 
 pub returns : goal.returns
 returns c =
-    let b = c in
-    takes_counted _ _ _ _ _ _ b.if-part-eq0.false b.limited.ensures.0 c.counted.ensures
+    takes_counted _ _ _ _ _ _ c.if-part-eq0.false c.limited.ensures.0 c.counted.ensures

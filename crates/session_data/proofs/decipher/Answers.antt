@@ -7,8 +7,6 @@ use Rattle.session_data.proofs.decipher.Goals as goal
 
 pub returns : goal.returns
 returns c =
-    let s = c in
-    let k = s in
-    let a = k.args in
-    c.decrypt_block.ensures ∙ ap₂ inv_cipher_under k.expand_key-keys.ensures (stored_whole k.requires s.store.ensures)
+    let a = c.args in
+    c.decrypt_block.ensures ∙ ap₂ inv_cipher_under c.expand_key-keys.ensures (stored_whole c.requires c.store.ensures)
     ∙ sym (inv_cipher_is a.key a.block.now)

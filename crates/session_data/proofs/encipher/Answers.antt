@@ -8,6 +8,5 @@ use Rattle.session_data.proofs.encipher.Goals as goal
 
 pub returns : goal.returns
 returns c =
-    let b = c in
-    let a = b.args in
-    c.encrypt_block.ensures ∙ ap (λ (keys : List (List ℕ)). cipher_under keys a.block) b.expand_key-keys.ensures ∙ sym (cipher_is a.key a.block)
+    let a = c.args in
+    c.encrypt_block.ensures ∙ ap (λ (keys : List (List ℕ)). cipher_under keys a.block) c.expand_key-keys.ensures ∙ sym (cipher_is a.key a.block)

@@ -16,13 +16,9 @@ returns-then-read_u16-ne0 c =
 pub returns-then-byte_at-ne5 : goal.returns-then-byte_at-ne5
 unfolding data_text_rules
 returns-then-byte_at-ne5 c =
-    let d = c in
-    let f = d in
-    simp (sym f.read_u32.ensures, eq-eqb _ _ f.if-read_u32-ne3405691582.false, sym d.read_u16.ensures.0, eq-eqb _ _ d.if-read_u16-ne0.false, sym c.byte_at.ensures.0, ne_eqb _ _ c.if-byte_at-ne5.true)
+    simp (sym c.read_u32.ensures, eq-eqb _ _ c.if-read_u32-ne3405691582.false, sym c.read_u16.ensures.0, eq-eqb _ _ c.if-read_u16-ne0.false, sym c.byte_at.ensures.0, ne_eqb _ _ c.if-byte_at-ne5.true)
 
 pub returns : goal.returns
 unfolding data_text_rules
 returns c =
-    let d = c in
-    let f = d in
-    simp (sym f.read_u32.ensures, eq-eqb _ _ f.if-read_u32-ne3405691582.false, sym d.read_u16.ensures.0, eq-eqb _ _ d.if-read_u16-ne0.false, sym c.byte_at.ensures.0, eq-eqb _ _ c.if-byte_at-ne5.false)
+    simp (sym c.read_u32.ensures, eq-eqb _ _ c.if-read_u32-ne3405691582.false, sym c.read_u16.ensures.0, eq-eqb _ _ c.if-read_u16-ne0.false, sym c.byte_at.ensures.0, eq-eqb _ _ c.if-byte_at-ne5.false)

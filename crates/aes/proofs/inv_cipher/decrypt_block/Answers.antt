@@ -30,11 +30,10 @@ loop-i-preserved c =
 pub returns : goal.returns
 unfolding inv_cipher_under
 returns c =
-    let l = c in
-    let keys = l.args.keys.now in
+    let keys = c.args.keys.now in
     c.of_state.ensures
     ∙ ap of_state (c.add_round_key-2.ensures ∙ ap (add_round_key (get_or keys 0 []))
     (c.inv_sub_bytes-2.ensures ∙ ap inv_sub_bytes (c.inv_shift_rows-2.ensures ∙ ap inv_shift_rows
-    (none keys l.loop-i.s l.add_round_key-s.result (l.loop-i.i - 1) (omega arith) l.loop-i.invariant.2
+    (none keys c.loop-i.s c.add_round_key-s.result (c.loop-i.i - 1) (omega arith) c.loop-i.invariant.2
     ∙ ap (λ (s : List (List ℕ)). inv_rounds keys s 9)
-    (l.add_round_key-s.ensures ∙ ap (add_round_key (get_or keys 10 [])) l.to_state.ensures)))))
+    (c.add_round_key-s.ensures ∙ ap (add_round_key (get_or keys 10 [])) c.to_state.ensures)))))

@@ -10,11 +10,10 @@ use Rattle.aes.proofs.inv_cipher.inv_affines.Goals as goal
 pub returns : goal.returns
 unfolding packed
 returns c =
-    let b = c in
-    let w = b.args.w in
-    let e1 = times_x_applied 1 (lit< tt) (elements w (search rules)) b.times_x-w1.ensures in
-    let e2 = times_x_applied 1 (lit< tt) e1 b.times_x-w2.ensures in
-    let e3 = times_x_applied 1 (lit< tt) e2 b.times_x-w3.ensures in
+    let w = c.args.w in
+    let e1 = times_x_applied 1 (lit< tt) (elements w (search rules)) c.times_x-w1.ensures in
+    let e2 = times_x_applied 1 (lit< tt) e1 c.times_x-w2.ensures in
+    let e3 = times_x_applied 1 (lit< tt) e2 c.times_x-w3.ensures in
     let e4 = times_x_applied 1 (lit< tt) e3 c.times_x-w4.ensures in
     let e5 = times_x_applied 1 (lit< tt) e4 c.times_x-w5.ensures in
     let e6 = times_x_applied 1 (lit< tt) e5 c.times_x-w6.ensures in

@@ -19,10 +19,9 @@ mixed-elements {p} {q} {r} {s} {f = f} {g = g} {h = h} {k = k} a b c d e =
 
 pub returns : goal.returns
 returns c =
-    let b = c in
-    let w = b.args in
-    let ab = of_rows w.a w.b (λ i. search rules) (λ i. search rules) b.pack.ensures in
-    let bc = of_rows w.b w.c (λ i. search rules) (λ i. search rules) b.pack-2.ensures in
+    let w = c.args in
+    let ab = of_rows w.a w.b (λ i. search rules) (λ i. search rules) c.pack.ensures in
+    let bc = of_rows w.b w.c (λ i. search rules) (λ i. search rules) c.pack-2.ensures in
     let cd = of_rows w.c w.d (λ i. search rules) (λ i. search rules) c.pack-3.ensures in
     let da = of_rows w.d w.a (λ i. search rules) (λ i. search rules) c.pack-4.ensures in
     c.unpack.ensures

@@ -8,7 +8,6 @@ use Rattle.aes_table.proofs.FastBlockCipher.next_key.Goals as goal
 pub returns : goal.returns
 unfolding next_key
 returns c =
-    let b = c in
-    let x = b.args.c in
-    c.of_words.ensures ∙ chained_words b.to_words-k0.result x c.sub_word.result
-    ∙ (λ i. chained (of_state (b.to_words-k0.ensures i)) (xor_word (le_byte x (search rules) i) (c.sub_word.ensures i)))
+    let x = c.args.c in
+    c.of_words.ensures ∙ chained_words c.to_words-k0.result x c.sub_word.result
+    ∙ (λ i. chained (of_state (c.to_words-k0.ensures i)) (xor_word (le_byte x (search rules) i) (c.sub_word.ensures i)))

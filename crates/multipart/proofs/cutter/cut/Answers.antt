@@ -13,7 +13,6 @@ returns-then-out-total c =
 
 pub returns : goal.returns
 returns c =
-    let p = c in
-    cut_made _ _ _ p.if-len-gt500.false _ p.if-size-eq0.false p.parts_before-full.ensures.0 c.if-full-gt255.false
+    cut_made _ _ _ c.if-len-gt500.false _ c.if-size-eq0.false c.parts_before-full.ensures.0 c.if-full-gt255.false
     c.if-out-total.false
     c.put_parts.ensures

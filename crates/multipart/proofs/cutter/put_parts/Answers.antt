@@ -5,18 +5,16 @@ use Rattle.multipart.proofs.cutter.put_parts.Goals as goal
 
 pub loop-k-preserved : goal.loop-k-preserved
 loop-k-preserved c =
-    let l = c in
-    let a = l.args in
+    let a = c.args in
     let p = c.put_part in
     let h = c.loop-k-test.true in (
       omega arith,
       omega (arith, bytes_less a.size h),
       omega (arith, p.auto.out),
-      part_put a.size h l.loop-k.from a.message.now l.loop-k.out _ _ l.loop-k.invariant.1 p.ensures l.loop-k.invariant.3,
+      part_put a.size h c.loop-k.from a.message.now c.loop-k.out _ _ c.loop-k.invariant.1 p.ensures c.loop-k.invariant.3,
     )
 
 pub returns : goal.returns
 returns c =
-    let l = c in
-    let a = l.args in
-    last_put a.size a.full l.loop-k.from a.message.now l.loop-k.out _ _ (omega arith) c.put_part-2.ensures l.loop-k.invariant.3
+    let a = c.args in
+    last_put a.size a.full c.loop-k.from a.message.now c.loop-k.out _ _ (omega arith) c.put_part-2.ensures c.loop-k.invariant.3

@@ -8,11 +8,10 @@ returns-then-now-since c = let a = c.args in behind a.self a.now c.if-now-since.
 
 pub returns-then-passed-timeout : goal.returns-then-passed-timeout
 returns-then-passed-timeout c =
-    let d = c in
-    let a = d.args in
+    let a = c.args in
     c.is_there.ensures
-    ∙ not_run_out a.self a.now d.if-now-since.false
-    (rw d.whole_minutes-passed.ensures at d.if-passed-timeout.true)
+    ∙ not_run_out a.self a.now c.if-now-since.false
+    (rw c.whole_minutes-passed.ensures at c.if-passed-timeout.true)
 
 pub returns : goal.returns
 returns c =
