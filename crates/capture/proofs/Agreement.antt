@@ -8,7 +8,9 @@ use lib.ListN.{length, replicate, length-replicate}
 use lib.Bits.{bit_xor}
 use lib.Dec.{eqb}
 use borrow.Author.Tests.{eqb-true}
+use Rattle.std.specs.Prelude.{Some, None}
 use Rattle.wire.specs.Choice.{pick}
+use Rattle.wire.specs.declared.refusals.Refusal.TheVariants.{StartInFrame, BadEscape}
 use Rattle.line.specs.Receive.{busy, idle, reading, after_start, holding, fresh_receiver, step_to, refused_step, taken, stored, unescaped, in_frame, step_of}
 use Rattle.line.specs.Line.{Emitted, refusal, gives, run}
 use Rattle.line.proofs.Moves.{reading_busy}
@@ -16,7 +18,7 @@ use Rattle.line.proofs.Delivery.{idle_busy}
 use Rattle.line.specs.declared.Progress.{Progress}
 use Rattle.line.specs.declared.Receiver.{Receiver}
 use Rattle.line.specs.declared.Step.{Step}
-use Rattle.line.specs.declared.Event.TheVariants.{Nothing, Refused}
+use Rattle.line.specs.declared.Event.TheVariants.{Refused}
 use Rattle.capture.specs.Ahead.{Ahead, start, bad_escape, before, behind_escape, ahead}
 use Rattle.capture.specs.Capture.{events_ahead, behind_start, Found, found_at, found_from, decoded}
 use Rattle.capture.specs.Agreement.{events_of, run_from, Agreement}
@@ -39,8 +41,8 @@ module _ (b : ℕ) (bs : List ℕ) (ih : Agrees bs) where
   idle_next at p s t room = go (eqb b 0x7E) refl
     where
       go : (x : Bool) → eqb b 0x7E ≡ x → run_from at (b ∷ bs) (holding p s) ≡ pick x (map (found_at at) (behind_start bs)) [] ++ found_from (at + 1) bs
-      go true e = run_step at _ (holding p s) b bs (step_to after_start s Nothing) refl (simp (e, t)) ∙ started at s room
-      go false e = run_step at _ (holding p s) b bs (step_to p s Nothing) refl (simp (e, t)) ∙ ih.idly (at + 1) p s t room
+      go true e = run_step at _ (holding p s) b bs (step_to after_start s None) refl (simp (e, t)) ∙ started at s room
+      go false e = run_step at _ (holding p s) b bs (step_to p s None) refl (simp (e, t)) ∙ ih.idly (at + 1) p s t room
 
   module _ (offset low got size count : ℕ) (s : List ℕ) (h : Inside low got size count s) where
     -- the record, after a 5C or not
@@ -64,7 +66,7 @@ module _ (b : ℕ) (bs : List ℕ) (ih : Agrees bs) where
         → run_from (offset + n) (b ∷ bs) (holds e n) ≡ then offset (refusal 1 (n + 1) ∷ []) (offset + n) (b ∷ bs)
     unfolding step_of found_from
     cuts e n le q =
-        steps e n (step_to after_start s (Refused 1 (n + 1))) (simp (q, is_busy e n le))
+        steps e n (step_to after_start s (Some (Refused StartInFrame (n + 1)))) (simp (q, is_busy e n le))
         ∙ ap (λ (z : List Found). found_at offset (refusal 1 (n + 1)) ∷ z) (started (offset + n) s h.room ∙ simp q)
 
     -- any other byte begins no frame
@@ -100,7 +102,7 @@ module _ (b : ℕ) (bs : List ℕ) (ih : Agrees bs) where
         go false true e f =
             let i : offset + count + 1 ≡ offset + (count + 1) = omega arith in
             behind count (behind_escape more bs) e
-            (steps false count (step_to (reading true low got size (count + 1)) s Nothing) (simp (e, f, t))
+            (steps false count (step_to (reading true low got size (count + 1)) s None) (simp (e, f, t))
             ∙ subst (λ (j : ℕ). run_from j bs (holds true (count + 1)) ≡ then offset (events_ahead count (gathers low got size s) (behind_escape more bs)) j bs) (sym i)
             (ih.escaped offset low got size count s h))
         go false false e f = values false count 1 b (omega arith) refl e (simp (e, f, t))
@@ -136,7 +138,7 @@ module _ (b : ℕ) (bs : List ℕ) (ih : Agrees bs) where
         go false false true e f g = value_of 0x1C 0x5C (eqb-true _ _ g) e refl refl
         go false false false e f g =
             behind (count + 1) (bad_escape 2) e
-            (steps true (count + 1) (refused_step 2 (count + 1 + 1) s) (simp (e, t, f, g))
+            (steps true (count + 1) (refused_step BadEscape (count + 1 + 1) s) (simp (e, t, f, g))
             ∙ ap₂ (λ (n : ℕ) (z : List Found). found_at offset (refusal 2 n) ∷ z) k (ih.idly (offset + (count + 1) + 1) idle s idle_busy h.room))
 
 -- ---- every list of bytes

@@ -5,14 +5,16 @@ use Prim.Native.Nat.{ℕ, ◌+◌, ◌*◌, ◌≤◌, ◌<◌}
 use native.Mathlib.Omega.{arith}
 use lib.ListN.{length, drop, set, length-append}
 use lib.Seq.{sets, length-sets}
+use Rattle.std.specs.Prelude.{Option, Some, None, Result}
 use Rattle.wire.specs.Writing.{Stores, no_room}
+use Rattle.wire.specs.Refusals.{number_of}
 use Rattle.wire.proofs.Lists.{sets_then}
 use Rattle.wire.proofs.Writing.{stores_sets}
-use Rattle.wire.specs.declared.Written.{Written}
+use Rattle.wire.specs.declared.refusals.Refusal.{Refusal}
 use Rattle.line.specs.Receive.{frame_payload}
 use Rattle.line.specs.Line.{emitted}
 use Rattle.line.specs.declared.Event.{Event}
-use Rattle.line.specs.declared.Event.TheVariants.{Nothing, Frame, Refused}
+use Rattle.line.specs.declared.Event.TheVariants.{Frame, Refused}
 use Rattle.capture.specs.Capture.{Found, found_at, found_from, decoded}
 use Rattle.capture.specs.Entry.{packed, entry, payload_length}
 use Rattle.capture.specs.Answer.{entries_in, entries_of, found_payload, payloads_in, payloads_of}
@@ -30,20 +32,20 @@ payloads_append [] gs = refl
 payloads_append (f ∷ fs) gs = ap (λ (z : List ℕ). found_payload f ++ z) (payloads_append fs gs) ∙ sym (append_assoc (found_payload f) (payloads_in fs) (payloads_in gs))
 
 -- ---- what an event adds
-events_at : ℕ → Event → List ℕ → List Found
+events_at : ℕ → Option Event → List ℕ → List Found
 events_at offset e store = map (found_at offset) (emitted e store)
 
-entry_count : (offset : ℕ) (e : Event) (store : List ℕ) → length (entries_in (events_at offset e store)) ≡ event_count e
+entry_count : (offset : ℕ) (e : Option Event) (store : List ℕ) → length (entries_in (events_at offset e store)) ≡ event_count e
 unfolding events_at
-entry_count offset Nothing store = refl
-entry_count offset (Frame major minor wrapper len) store = refl
-entry_count offset (Refused n place) store = refl
+entry_count offset None store = refl
+entry_count offset (Some (Frame major minor wrapper len)) store = refl
+entry_count offset (Some (Refused r place)) store = refl
 
-payload_count : (offset : ℕ) (e : Event) (store : List ℕ) → Fits e store → length (payloads_in (events_at offset e store)) ≡ payload_length e
+payload_count : (offset : ℕ) (e : Option Event) (store : List ℕ) → Fits e store → length (payloads_in (events_at offset e store)) ≡ payload_length e
 unfolding events_at flatten
-payload_count offset Nothing store h = refl
-payload_count offset (Frame major minor wrapper len) store h = ap length (append-nil (frame_payload len store)) ∙ h.1
-payload_count offset (Refused n place) store h = refl
+payload_count offset None store h = refl
+payload_count offset (Some (Frame major minor wrapper len)) store h = ap length (append-nil (frame_payload len store)) ∙ h.1
+payload_count offset (Some (Refused r place)) store h = refl
 
 -- ---- what is found, and what stands behind it
 module _ {s : List ℕ} {from : ℕ} {found : NextEvent} {store : List ℕ} (h : Looks s from found store) where
@@ -72,10 +74,10 @@ module _ {s : List ℕ} {from : ℕ} {found : NextEvent} {store : List ℕ} (h :
   payloads_left = ap length payloads_are ∙ length-append (payloads_in (found_in found store)) (payloads_in rest) ∙ ap (λ (k : ℕ). k + length (payloads_in rest)) payloads_seen
 
 -- a payload has at most 507 bytes
-length_of_lem : (e : Event) (store : List ℕ) → Fits e store → payload_length e ≤ 507
-length_of_lem Nothing store h = omega arith
-length_of_lem (Frame major minor wrapper len) store h = h.0
-length_of_lem (Refused n place) store h = omega arith
+length_of_lem : (e : Option Event) (store : List ℕ) → Fits e store → payload_length e ≤ 507
+length_of_lem None store h = omega arith
+length_of_lem (Some (Frame major minor wrapper len)) store h = h.0
+length_of_lem (Some (Refused r place)) store h = omega arith
 
 pub length_limit : {s : List ℕ} {from : ℕ} {found : NextEvent} {store : List ℕ} → Looks s from found store → payload_length found.event ≤ 507
 length_limit {found = found} {store} h = length_of_lem found.event store h.fits
@@ -158,33 +160,33 @@ room_there l f h u v =
     }
 
 -- ---- where the event is known: the room for it, and what is put
-pub room_as : {e e' : Event} {store list : List ℕ} {entries : ℕ} {buffer : List ℕ} {bytes : ℕ} → e ≡ e' → Room e store list entries buffer bytes
+pub room_as : {e e' : Option Event} {store list : List ℕ} {entries : ℕ} {buffer : List ℕ} {bytes : ℕ} → e ≡ e' → Room e store list entries buffer bytes
     → Room e' store list entries buffer bytes
-room_as {store = store} {list} {entries} {buffer} {bytes} q h = subst (λ (x : Event). Room x store list entries buffer bytes) q h
+room_as {store = store} {list} {entries} {buffer} {bytes} q h = subst (λ (x : Option Event). Room x store list entries buffer bytes) q h
 
 module _ (found : NextEvent) (store : List ℕ) {list : List ℕ} {entries : ℕ} {buffer : List ℕ} {bytes : ℕ} where
-  puts_as : (e : Event) {list' buffer' : List ℕ} → found.event ≡ e
+  puts_as : (e : Option Event) {list' buffer' : List ℕ} → found.event ≡ e
       → PutsEvent (map (found_at found.offset) (emitted e store)) list entries buffer bytes list' buffer'
       → PutsEvent (found_in found store) list entries buffer bytes list' buffer'
   puts_as e {list'} {buffer'} q h =
-      subst (λ (x : Event). PutsEvent (map (found_at found.offset) (emitted x store)) list entries buffer bytes list' buffer') (sym q) h
+      subst (λ (x : Option Event). PutsEvent (map (found_at found.offset) (emitted x store)) list entries buffer bytes list' buffer') (sym q) h
 
-  pub puts_nothing : found.event ≡ Nothing → PutsEvent (found_in found store) list entries buffer bytes list buffer
+  pub puts_nothing : found.event ≡ None → PutsEvent (found_in found store) list entries buffer bytes list buffer
   unfolding flatten
-  puts_nothing q = puts_as Nothing q (record { lists = refl; stores = refl })
+  puts_nothing q = puts_as None q (record { lists = refl; stores = refl })
 
-  pub puts_refusal : {n place x : ℕ} → found.event ≡ Refused n place → x ≡ packed (n ∷ place ∷ 0 ∷ 0 ∷ 0 ∷ found.offset ∷ [])
+  pub puts_refusal : {r : Refusal} {place x : ℕ} → found.event ≡ Some (Refused r place) → x ≡ packed (number_of r ∷ place ∷ 0 ∷ 0 ∷ 0 ∷ found.offset ∷ [])
       → PutsEvent (found_in found store) list entries buffer bytes (set list entries x) buffer
   unfolding flatten
-  puts_refusal q e = puts_as (Refused _ _) q (record { lists = ap (set list entries) e; stores = refl })
+  puts_refusal q e = puts_as (Some (Refused _ _)) q (record { lists = ap (set list entries) e; stores = refl })
 
-  pub puts_frame : {major minor wrapper len x : ℕ} {payload buffer' : List ℕ} {answer : Written} → found.event ≡ Frame major minor wrapper len
+  pub puts_frame : {major minor wrapper len x : ℕ} {payload buffer' : List ℕ} {answer : Result ℕ Refusal} → found.event ≡ Some (Frame major minor wrapper len)
       → x ≡ packed (5 ∷ len ∷ major ∷ minor ∷ wrapper ∷ found.offset ∷ []) → payload ≡ frame_payload len store → bytes + length payload ≤ length buffer
       → Stores (no_room bytes payload buffer ∷ []) bytes payload buffer answer buffer'
       → PutsEvent (found_in found store) list entries buffer bytes (set list entries x) buffer'
   unfolding flatten
   puts_frame {len = len} {payload = payload} q e p r w =
-      puts_as (Frame _ _ _ _) q
+      puts_as (Some (Frame _ _ _ _)) q
       (record {
         lists = ap (set list entries) e;
         stores = stores_sets bytes payload buffer r w ∙ ap (sets buffer bytes) (p ∙ sym (append-nil (frame_payload len store)));

@@ -7,6 +7,7 @@ use lib.ListN.{length, take, drop, get_or, length-drop, drop_of_length-le}
 use lib.Seq.{drop-cons, length-take-le}
 use lib.Dec.{eqb}
 use borrow.Author.Tests.{eq-eqb, ne_eqb}
+use Rattle.std.specs.Prelude.{Option, Some, None}
 use Rattle.wire.specs.Numbers.{num}
 use Rattle.wire.proofs.Choice.{pick_all}
 use Rattle.crc.specs.Crc.{crc_of}
@@ -14,7 +15,7 @@ use Rattle.line.specs.Receive.{within}
 use Rattle.line.specs.Line.{Emitted, refusal, frame, emitted, Limits}
 use Rattle.line.proofs.Moves.{within_limits}
 use Rattle.line.specs.declared.Event.{Event}
-use Rattle.line.specs.declared.Event.TheVariants.{Nothing, Frame, Refused}
+use Rattle.line.specs.declared.Event.TheVariants.{Frame, Refused}
 use Rattle.capture.specs.Ahead.{Ahead, whole, start, bad_escape, end, ahead}
 use Rattle.capture.specs.Capture.{events_ahead, checked, sized, behind_start, Found, found_at, found_from}
 use Rattle.capture.specs.Looking.{NoStartIn, StartFrom, Fits, no_event, NextIs, Looks}
@@ -87,10 +88,10 @@ behind_start_each bs =
     found_each 1 2 (λ place vs rest. sized (num 2 0 vs) place rest) bs (omega arith) (omega arith)
     (λ n vs rest h c. sized_each (num 2 0 vs) (1 + n) rest (omega arith) (omega arith)) (ahead 2 bs) (reaches 2 bs)
 
-fits : (e : Event) (store : List ℕ) → Each (emitted e store) → Fits e store
-fits Nothing store h = tt
-fits (Frame major minor wrapper len) store h = h.0
-fits (Refused n place) store h = h.0
+fits : (e : Option Event) (store : List ℕ) → Each (emitted e store) → Fits e store
+fits None store h = tt
+fits (Some (Frame major minor wrapper len)) store h = h.0
+fits (Some (Refused r place)) store h = h.0
 
 -- ---- the next event
 -- at the end nothing is left

@@ -7,22 +7,25 @@ use native.Mathlib.Omega.{arith}
 use lib.ListN.{length}
 use lib.Dec.{ltb}
 use borrow.Author.Tests.{lt-ltb, le-ltb, ltb-false}
+use Rattle.std.specs.Prelude.{Ok, Err}
 use Rattle.wire.specs.Rules.{first_broken}
+use Rattle.wire.specs.Refusals.{number_of, refusal_of, refusing}
+use Rattle.wire.specs.declared.refusals.Refusal.TheVariants.{BadMessageData, NoRoom}
 use Rattle.wire.proofs.Choice.{or_fails, true_false}
 use Rattle.wire.proofs.Writing.{sets_placed}
 use Rattle.capture.specs.Capture.{decoded}
 use Rattle.capture.specs.Answer.{entries_of, payloads_of, capture_rules, Decodes}
 use Rattle.capture.specs.Looking.{PutsEvent, CountsOf}
 use Rattle.capture.specs.declared.Counts.{Counts}
-use Rattle.capture.specs.declared.Decoded.TheVariants.{Events, Refused}
 
 module _ (capture list buffer : List ℕ) where
-  refused : (n : ℕ) → first_broken (capture_rules capture list buffer) ≡ suc n → Decodes capture list buffer (Refused (suc n)) list buffer
-  refused n e = record { number = rw e; answers = rw e; lists = rw e; stores = rw e }
+  refused : (n : ℕ) → number_of (refusal_of (suc n)) ≡ suc n → first_broken (capture_rules capture list buffer) ≡ suc n
+      → Decodes capture list buffer (refusing (suc n)) list buffer
+  refused n k e = record { number = rw (e, k); answers = rw e; lists = rw e; stores = rw e }
 
   -- 17
-  pub decodes_long : 65536 < length capture → Decodes capture list buffer (Refused 17) list buffer
-  decodes_long h = refused 16 (rw (lt-ltb _ _ h))
+  pub decodes_long : 65536 < length capture → Decodes capture list buffer (Err BadMessageData) list buffer
+  decodes_long h = refused 16 refl (rw (lt-ltb _ _ h))
 
   module _ (short : length capture ≤ 65536) where
     as_counted : (room n : ℕ) → ltb room (0 + n) ≡ ltb room n
@@ -36,8 +39,8 @@ module _ (capture list buffer : List ℕ) where
     shorter false false e f t = true_false (sym t)
 
     pub decodes_short : {r : Bool} → r ≡ (ltb (length list) (length (entries_of capture)) || ltb (length buffer) (length (payloads_of capture))) → r ≡ true
-        → Decodes capture list buffer (Refused 25) list buffer
-    decodes_short e t = refused 24 (shorter _ _ refl refl (sym e ∙ t))
+        → Decodes capture list buffer (Err NoRoom) list buffer
+    decodes_short e t = refused 24 refl (shorter _ _ refl refl (sym e ∙ t))
 
     -- there is room
     module _ {r : Bool} (e : r ≡ (ltb (length list) (length (entries_of capture)) || ltb (length buffer) (length (payloads_of capture)))) (t : r ≡ false) where
@@ -50,7 +53,7 @@ module _ (capture list buffer : List ℕ) where
       none_broken = rw (le-ltb _ _ short, le-ltb (length list) (0 + length (entries_of capture)) (omega (arith, rooms.0)), le-ltb (length buffer) (0 + length (payloads_of capture)) (omega (arith, rooms.1)))
 
       pub decodes_all : {c : Counts} {list' buffer' : List ℕ} → CountsOf capture c → PutsEvent (decoded capture) list 0 buffer 0 list' buffer'
-          → Decodes capture list buffer (Events c.entries c.bytes) list' buffer'
+          → Decodes capture list buffer (Ok c) list' buffer'
       decodes_all n p =
           record {
             number = rw (none_broken, n.entries, n.bytes);

@@ -7,6 +7,9 @@ use native.Mathlib.Omega.{arith}
 use lib.ListN.{length, take, drop, get_or}
 use borrow.Author.Tests.{le-leb}
 use Rattle.wire.specs.Numbers.{num}
+use Rattle.wire.specs.Refusals.{number_of}
+use Rattle.wire.specs.declared.refusals.Refusal.{Refusal}
+use Rattle.wire.specs.declared.refusals.Refusal.TheVariants.{StartInFrame, BadEscape, BadFrameSize}
 use Rattle.line.specs.Receive.{within}
 use Rattle.line.specs.Line.{Emitted, refusal, emitted}
 use Rattle.capture.specs.Ahead.{Ahead, whole, start, bad_escape, end, ahead}
@@ -40,12 +43,12 @@ module _ (s : List ℕ) (offset at : ℕ) (r : NextEvent) (behind-start : offset
         clear = h;
       })
 
-  stops_refused : (n behind next k : ℕ) → behind ≡ at + k → at ≤ next → next ≤ length s → NoStartIn s at next
-      → stopped (at - offset) (ahead 1 (drop at s)) ≡ refusal n (at - offset + k) ∷ [] → r ≡ refusal_at n offset behind next → Stops
-  stops_refused n behind next k b l u h e q store =
+  stops_refused : (why : Refusal) (behind next k : ℕ) → behind ≡ at + k → at ≤ next → next ≤ length s → NoStartIn s at next
+      → stopped (at - offset) (ahead 1 (drop at s)) ≡ refusal (number_of why) (at - offset + k) ∷ [] → r ≡ refusal_at why offset behind next → Stops
+  stops_refused why behind next k b l u h e q store =
       subst (λ (x : NextEvent). NextIs s offset at (stopped (at - offset) (ahead 1 (drop at s))) x store) (sym q)
       (record {
-        event = ap (λ (j : ℕ). refusal n j ∷ []) (let p : behind - offset ≡ at - offset + k = omega arith in p) ∙ sym e;
+        event = ap (λ (j : ℕ). refusal (number_of why) j ∷ []) (let p : behind - offset ≡ at - offset + k = omega arith in p) ∙ sym e;
         offset_is = refl;
         forward = l;
         within = u;
@@ -58,10 +61,10 @@ module _ (s : List ℕ) (offset at : ℕ) (r : NextEvent) (behind-start : offset
 
   module _ (below : at < length s) where
     -- a start byte
-    pub stops_start : get_or s at 0 ≡ 0x7E → r ≡ refusal_at 1 offset (at + 1) at → Stops
+    pub stops_start : get_or s at 0 ≡ 0x7E → r ≡ refusal_at StartInFrame offset (at + 1) at → Stops
     unfolding events_ahead
     stops_start e q =
-        stops_refused 1 (at + 1) at 1 refl (omega arith) (omega arith) (none_yet s at) (ap (stopped (at - offset)) (first_start s at below e)) q
+        stops_refused StartInFrame (at + 1) at 1 refl (omega arith) (omega arith) (none_yet s at) (ap (stopped (at - offset)) (first_start s at below e)) q
 
     module _ (n : get_or s at 0 ≡ 0x7E → ⊥) (h : Stuck (ahead 1 (drop at s))) where
       -- the end behind a 5C
@@ -71,16 +74,16 @@ module _ (s : List ℕ) (offset at : ℕ) (r : NextEvent) (behind-start : offset
           stops_nothing (omega arith) (escape_end s at below (stuck_escape s at below n h) u) (rw e at (past_one s at n)) q
 
       -- a start byte behind one, and a bad escape
-      pub stops_escape_start : at + 1 < length s → get_or s (at + 1) 0 ≡ 0x7E → r ≡ refusal_at 1 offset (at + 2) (at + 1) → Stops
+      pub stops_escape_start : at + 1 < length s → get_or s (at + 1) 0 ≡ 0x7E → r ≡ refusal_at StartInFrame offset (at + 2) (at + 1) → Stops
       unfolding events_ahead
       stops_escape_start u e q =
-          stops_refused 1 (at + 2) (at + 1) 2 refl (omega arith) (omega arith) (past_one s at n)
+          stops_refused StartInFrame (at + 2) (at + 1) 2 refl (omega arith) (omega arith) (past_one s at n)
           (ap (stopped (at - offset)) (escape_start s at u (stuck_escape s at below n h) e)) q
 
-      pub stops_bad : at + 1 < length s → (get_or s (at + 1) 0 ≡ 0x7E → ⊥) → r ≡ refusal_at 2 offset (at + 2) (at + 2) → Stops
+      pub stops_bad : at + 1 < length s → (get_or s (at + 1) 0 ≡ 0x7E → ⊥) → r ≡ refusal_at BadEscape offset (at + 2) (at + 2) → Stops
       unfolding events_ahead
       stops_bad u k q =
-          stops_refused 2 (at + 2) (at + 2) 2 refl (omega arith) (omega arith)
+          stops_refused BadEscape (at + 2) (at + 2) 2 refl (omega arith) (omega arith)
           (all_next (λ (i : ℕ). get_or s i 0 ≡ 0x7E → ⊥) at (at + 1) (at + 2) (omega arith) (past_one s at n) k)
           (ap (stopped (at - offset)) (stuck_bad s at u (stuck_escape s at below n h) k h)) q
 
@@ -129,7 +132,7 @@ module _ (s : List ℕ) (offset at size : ℕ) (r : NextEvent) (store : List ℕ
   Sized = NextIs s offset at (sized size (at - offset) (drop at s)) r store
 
   -- 3
-  pub next_size : within size ≡ false → r ≡ refusal_at 3 offset at at → Sized
+  pub next_size : within size ≡ false → r ≡ refusal_at BadFrameSize offset at at → Sized
   unfolding sized
   next_size e q =
       subst (λ (x : NextEvent). NextIs s offset at (sized size (at - offset) (drop at s)) x store) (sym q)

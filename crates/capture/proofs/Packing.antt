@@ -1,53 +1,68 @@
 -- Entries, and the payloads that they tell of. Assumes nothing.
-use mathlib.Core.Path.{◌≡◌, sym, ap, ◌∙◌, subst}
+use mathlib.Core.Path.{◌≡◌, refl, sym, ap, ◌∙◌, subst}
 use mathlib.Core.List.{List, [], ◌∷◌, ◌++◌}
-use mathlib.Core.Bool.{◌&&◌}
+use mathlib.Core.Bool.{Bool, true, false, ◌&&◌}
 use Prim.Native.Nat.{ℕ, ◌+◌, ◌≤◌, ◌<◌}
 use native.Mathlib.Omega.{arith}
 use native.Mathlib.Numerals.{add-one}
 use lib.ListN.{length, take, get_or, get_or-eq_default}
 use lib.Seq.{take-suc, take_all}
 use lib.Dec.{eqb, leb}
-use borrow.Author.Tests.{eq-eqb, ne_eqb, le-leb, lt-leb}
+use borrow.Author.Tests.{eq-eqb, ne_eqb, le-leb, lt-leb, leb-true}
+use Rattle.std.specs.Prelude.{Option, Some, None}
 use Rattle.wire.specs.Numbers.{num, le}
+use Rattle.wire.specs.Refusals.{refusal_of}
+use Rattle.wire.specs.declared.refusals.Refusal.{Refusal}
 use Rattle.wire.specs.Fields.{values_at}
 use Rattle.wire.specs.Parts.{part}
-use Rattle.wire.proofs.Choice.{pick_all, and_false}
+use Rattle.wire.specs.Choice.{pick}
+use Rattle.wire.proofs.Choice.{pick_all, and_holds}
 use Rattle.line.specs.declared.Event.{Event}
-use Rattle.line.specs.declared.Event.TheVariants.{Nothing, Frame, Refused}
-use Rattle.capture.specs.Entry.{entry_fields, values_of, event_by, event_of, payload_length, length_of, payload_total, payload_part}
+use Rattle.line.specs.declared.Event.TheVariants.{Frame, Refused}
+use Rattle.capture.specs.Entry.{entry_fields, values_of, refusal_of_kind, event_by, event_of, payload_length, length_of, payload_total, payload_part}
+
+-- ---- a kind that is no refusal's number
+pub other_kind : (n : ℕ) → (n ≡ 1 → ⊥) → (n ≡ 2 → ⊥) → (n ≡ 3 → ⊥) → (n ≡ 4 → ⊥) → None ≡ refusal_of_kind n
+other_kind n one two three four = go (leb 1 n && leb n 4) refl
+  where
+    go : (t : Bool) → (leb 1 n && leb n 4) ≡ t → ◌≡◌ {A = Option Refusal} None (pick t (Some (refusal_of n)) None)
+    go false e = refl
+    go true e = let l = and_holds (leb 1 n) (leb n 4) e in absurd (omega (arith, leb-true _ _ l.0, leb-true _ _ l.1))
 
 -- ---- an entry's event, from its bytes
+none_by : (t : Bool) (r : Refusal) (place : ℕ) → ◌≡◌ {A = Option Refusal} None (pick t (Some r) None) → ◌≡◌ {A = Option Event} None (pick t (Some (Refused r place)) None)
+none_by true r place q = cc
+none_by false r place q = refl
+
+some_by : (t : Bool) (r s : Refusal) (place : ℕ) → ◌≡◌ {A = Option Refusal} (Some s) (pick t (Some r) None)
+    → ◌≡◌ {A = Option Event} (Some (Refused s place)) (pick t (Some (Refused r place)) None)
+some_by true r s place q = cc
+some_by false r s place q = cc
+
 module _ (bytes : List ℕ) (n count : ℕ) (e : bytes ≡ le 8 n) (c : count ≡ num 2 1 bytes) where
-  abbrev event : List ℕ → Event
+  abbrev event : List ℕ → Option Event
   event b = event_by (get_or (values_at entry_fields 0 b) 0 0) (values_at entry_fields 0 b)
 
-  pub frame_event : get_or bytes 0 0 ≡ 5 → Frame (get_or bytes 3 0) (get_or bytes 4 0) (get_or bytes 5 0) count ≡ event_of n
+  pub frame_event : get_or bytes 0 0 ≡ 5 → Some (Frame (get_or bytes 3 0) (get_or bytes 4 0) (get_or bytes 5 0) count) ≡ event_of n
   unfolding event_by
-  frame_event k = subst (λ (b : List ℕ). Frame (get_or bytes 3 0) (get_or bytes 4 0) (get_or bytes 5 0) count ≡ event b) e (sym (simp (eq-eqb _ _ k, c)))
+  frame_event k = subst (λ (b : List ℕ). Some (Frame (get_or bytes 3 0) (get_or bytes 4 0) (get_or bytes 5 0) count) ≡ event b) e (sym (simp (eq-eqb _ _ k, c)))
 
   module _ (k : get_or bytes 0 0 ≡ 5 → ⊥) where
-    pub low_event : get_or bytes 0 0 < 1 → Nothing ≡ event_of n
+    pub no_event : None ≡ refusal_of_kind (get_or bytes 0 0) → None ≡ event_of n
     unfolding event_by
-    low_event h = subst (λ (b : List ℕ). Nothing ≡ event b) e (sym (simp (ne_eqb _ _ k, lt-leb _ _ h)))
+    no_event q = subst (λ (b : List ℕ). None ≡ event b) e (simp (ne_eqb _ _ k) (none_by _ _ _ q))
 
-    pub high_event : 4 < get_or bytes 0 0 → Nothing ≡ event_of n
+    pub refusal_event : {r : Refusal} → Some r ≡ refusal_of_kind (get_or bytes 0 0) → Some (Refused r count) ≡ event_of n
     unfolding event_by
-    high_event h =
-        subst (λ (b : List ℕ). Nothing ≡ event b) e
-        (sym (simp (ne_eqb _ _ k, lt-leb _ _ h, and_false (leb 1 (get_or bytes 0 0)))))
-
-    pub refusal_event : 1 ≤ get_or bytes 0 0 → get_or bytes 0 0 ≤ 4 → Refused (get_or bytes 0 0) count ≡ event_of n
-    unfolding event_by
-    refusal_event l h = subst (λ (b : List ℕ). Refused (get_or bytes 0 0) count ≡ event b) e (sym (simp (ne_eqb _ _ k, le-leb _ _ l, le-leb _ _ h, c)))
+    refusal_event {r} q = subst (λ (b : List ℕ). Some (Refused r count) ≡ event b) e (simp (ne_eqb _ _ k, sym c) (some_by _ _ _ _ q))
 
 -- an entry's payload length is a number of 16 bits
 pub length_below : (n : ℕ) → length_of n < 65536
 unfolding event_by
 length_below n =
     let kind : ℕ = get_or (values_of n) 0 0 in
-    pick_all (λ (e : Event). payload_length e < 65536) (eqb kind 5) (λ q. omega arith)
-    (λ q. pick_all (λ (e : Event). payload_length e < 65536) (leb 1 kind && leb kind 4) (λ p. omega arith) (λ p. omega arith))
+    pick_all (λ (e : Option Event). payload_length e < 65536) (eqb kind 5) (λ q. omega arith)
+    (λ q. pick_all (λ (e : Option Event). payload_length e < 65536) (leb 1 kind && leb kind 4) (λ p. omega arith) (λ p. omega arith))
 
 pub total_append : (ns ms : List ℕ) → payload_total (ns ++ ms) ≡ payload_total ns + payload_total ms
 unfolding payload_total

@@ -9,15 +9,17 @@ use lib.Seq.{split_at, take-append-le, take_at, drop_at}
 use lib.Bits.{bit_xor, xor_lt}
 use lib.Dec.{eqb, ltb}
 use borrow.Author.Tests.{lt-leb, ltb-false}
+use Rattle.std.specs.Prelude.{Some}
 use Rattle.wire.specs.Choice.{pick}
 use Rattle.wire.specs.Numbers.{Bytes, num}
 use Rattle.wire.proofs.Choice.{pick_all}
 use Rattle.wire.proofs.Numbers.{bytes_none, bytes_cons, bytes_tail}
 use Rattle.wire.proofs.Lists.{part_in}
 use Rattle.wire.specs.Parts.{part, part_of}
-use Rattle.wire.specs.Rules.{Rule, verdict, first_broken}
+use Rattle.wire.specs.Rules.{Rule}
 use Rattle.wire.specs.Writing.{no_room}
 use Rattle.wire.proofs.Rules.{first_none, judge_pass}
+use Rattle.wire.proofs.Listed.{judged_ok}
 use Rattle.crc.specs.Crc.{crc_of}
 use Rattle.line.specs.Receive.{within, fresh_receiver}
 use Rattle.line.specs.Line.{Emitted, refusal, frame}
@@ -27,7 +29,7 @@ use Rattle.capture.specs.Entry.{entry, without_payload, event_of, offset_of, pay
 use Rattle.capture.specs.Answer.{found_payload, entries_in, entries_of, payloads_in, payloads_of, capture_rules}
 use Rattle.capture.specs.Agreement.{run_from}
 use Rattle.capture.specs.Reading.{none, Reads, ReadsBack}
-use Rattle.capture.specs.declared.Decoded.TheVariants.{Events, Refused}
+use Rattle.capture.specs.declared.Counts.{Counts}
 use Rattle.capture.proofs.Unpacking.{entry_back}
 use Rattle.capture.proofs.Agreement.{agreement}
 use Rattle.capture.proofs.Finding.{AsEvent, Each, behind_start_each}
@@ -123,9 +125,9 @@ all_pack limit at (b ∷ bs) h l = go (eqb b 0x7E) (all_pack limit (at + 1) bs (
 
 -- ---- an entry, read back
 record Unpacks (f : Found) : Type 0 where
-  event : event_of (entry f) ≡ without_payload f.event
+  event : event_of (entry f) ≡ Some (without_payload f.event)
   offset : offset_of (entry f) ≡ f.offset
-  long : payload_length (without_payload f.event) ≡ length (found_payload f)
+  long : payload_length (Some (without_payload f.event)) ≡ length (found_payload f)
 
 unpacks : (offset : ℕ) (e : Emitted) → Packs 65536 (found_at offset e) → Unpacks (found_at offset e)
 unpacks offset (refusal n place) h =
@@ -224,22 +226,18 @@ module _ (fs : List Found) (list buffer : List ℕ) (h : AllPack 65536 fs) (few 
       }
 
 -- ---- the law
-events_only : (n : ℕ) (entries bytes e b : ℕ) → verdict Refused n (Events e b) ≡ Events entries bytes → (n ≡ 0) × (entries ≡ e)
-events_only zero entries bytes e b q = (refl, cc)
-events_only (suc n) entries bytes e b q = absurd (let z : ◌≡◌ {A = ℕ} 0 1 = cc in omega arith)
-
 pub reads_back : ReadsBack
-reads_back capture list buffer list' buffer' entries bytes h d =
+reads_back capture list buffer list' buffer' c h d =
     let fs : List Found = decoded capture in
     let rules : List Rule = capture_rules capture list buffer in
     let o : fs ≡ run_from 0 capture fresh_receiver = agreement.offsets capture in
-    let r = events_only (first_broken rules) entries bytes (length (entries_of capture)) (length (payloads_of capture)) (sym d.answers) in
+    let r = judged_ok rules d.answers in
     let short : length capture ≤ 65536 = ltb-false _ _ (first_none 16 (ltb 65536 (length capture)) (no_room 0 (entries_of capture) list ∷ no_room 0 (payloads_of capture) buffer ∷ []) r.0).0 in
     let few : length fs ≤ 65536 = omega (arith, (rooms_suffice capture).0, length_entries fs) in
     let packs : AllPack 65536 fs = all_pack 65536 0 capture h (omega arith) in
     let here : list' ≡ entries_in fs ++ drop (0 + length (entries_of capture)) list = d.lists ∙ judge_pass (λ n. list) rules _ r.0 in
     let there : buffer' ≡ payloads_in fs ++ drop (0 + length (payloads_of capture)) buffer = d.stores ∙ judge_pass (λ n. buffer) rules _ r.0 in
-    let n : entries ≡ length fs = r.1 ∙ length_entries fs in
+    let n : c.entries ≡ length fs = ap (λ (x : Counts). x.entries) r.1 ∙ length_entries fs in
     record {
       count = n ∙ ap length o;
       each =

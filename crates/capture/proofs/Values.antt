@@ -8,7 +8,9 @@ use lib.ListN.{length, take, set, length-set}
 use lib.Seq.{take-suc-set}
 use lib.Dec.{eqb}
 use borrow.Author.Tests.{eq-eqb, ne_eqb, eqb-true, eqb-false}
+use Rattle.std.specs.Prelude.{Some, None}
 use Rattle.wire.specs.Choice.{pick}
+use Rattle.wire.specs.declared.refusals.Refusal.TheVariants.{BadFrameSize}
 use Rattle.wire.specs.Numbers.{num}
 use Rattle.line.specs.Receive.{within, busy, idle, reading, holding, step_to, refused_step, taken, stored, finished, step_of}
 use Rattle.line.specs.Receive.{sized as sizedStep}
@@ -20,7 +22,6 @@ use Rattle.line.proofs.Delivery.{idle_busy}
 use Rattle.line.specs.declared.Progress.{Progress}
 use Rattle.line.specs.declared.Receiver.{Receiver}
 use Rattle.line.specs.declared.Step.{Step}
-use Rattle.line.specs.declared.Event.TheVariants.{Nothing}
 use Rattle.capture.specs.Ahead.{Ahead, whole, start, bad_escape, end, before, behind_escape, ahead}
 use Rattle.capture.specs.Capture.{events_ahead, checked, sized, Found, found_at, found_from}
 use Rattle.capture.specs.Agreement.{run_from}
@@ -105,7 +106,7 @@ module _ (bs : List ℕ) (ih : Agrees bs) (offset low size count w v : ℕ) (s :
 
   -- its high byte
   size_agrees : (n : ℕ) (t : Bool) → within n ≡ t → count + w ≤ 5 → length s ≡ 512
-      → stepped offset (pick t (step_to (reading false 0 2 n (count + w)) s Nothing) (refused_step 3 (count + w) s)) next bs
+      → stepped offset (pick t (step_to (reading false 0 2 n (count + w)) s None) (refused_step BadFrameSize (count + w) s)) next bs
       ≡ then offset (pick t (events_ahead (count + w) (λ place vs rest. checked n place vs) (ahead n bs)) (refusal 3 (count + w) ∷ [])) next bs
   unfolding gathers wanted
   size_agrees n true e hc room =
@@ -141,7 +142,7 @@ module _ (bs : List ℕ) (ih : Agrees bs) (offset low size count w v : ℕ) (s :
 
     taken_body : (c : ℕ) (t : Bool) → eqb got (size + 1) ≡ t
         → taken (reading false low got size c) s v
-        ≡ pick t (step_to idle (set s (got - 2) v) (finished size c (set s (got - 2) v))) (step_to (reading false low (got + 1) size c) (set s (got - 2) v) Nothing)
+        ≡ pick t (step_to idle (set s (got - 2) v) (Some (finished size c (set s (got - 2) v)))) (step_to (reading false low (got + 1) size c) (set s (got - 2) v) None)
     unfolding taken stored
     taken_body c t e = simp (got_0, got_1, e)
 

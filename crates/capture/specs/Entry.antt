@@ -1,13 +1,16 @@
 -- An event as an entry of the lent list, one number of 64 bits, and back.
-use Rattle.std.specs.Prelude.{ℕ, ◌+◌, ◌≤◌, ◌<◌, ◌≡◌, refl, ◌&&◌, List, [], ◌∷◌, map, take, get_or, eqb, leb}
+use Rattle.std.specs.Prelude.{ℕ, ◌+◌, ◌≤◌, ◌<◌, ◌≡◌, refl, ◌&&◌, List, [], ◌∷◌, map, take, get_or, eqb, leb, Option, Some, None}
 use Rattle.wire.specs.Choice.{pick}
 use Rattle.wire.specs.Numbers.{num, le}
 use Rattle.wire.specs.Parts.{part}
 use Rattle.wire.specs.Fields.{Field, any, encode, values_at}
+use Rattle.wire.specs.Refusals.{refusal_of}
 use Rattle.wire.specs.declared.Part.{Part}
+use Rattle.wire.specs.declared.refusals.Refusal.{Refusal}
+use Rattle.wire.specs.declared.refusals.Refusal.TheVariants.{BadFrameSize}
 use Rattle.line.specs.Line.{Emitted, refusal, frame}
 use Rattle.line.specs.declared.Event.{Event}
-use Rattle.line.specs.declared.Event.TheVariants.{Nothing, Frame, Refused}
+use Rattle.line.specs.declared.Event.TheVariants.{Frame, Refused}
 use Rattle.capture.specs.Capture.{Found, found_at}
 
 -- the fields of its eight bytes, low byte first: kind, payload length or place (2), major, minor, wrapper type, offset of the start byte (2)
@@ -29,14 +32,18 @@ entry f = packed (entry_values f.offset f.event)
 abbrev pub values_of : ℕ → List ℕ
 values_of n = values_at entry_fields 0 (le 8 n)
 
+-- the refusal of a kind, none where that is no refusal's number
+abbrev pub refusal_of_kind : ℕ → Option Refusal
+refusal_of_kind kind = pick (leb 1 kind && leb kind 4) (Some (refusal_of kind)) None
+
 -- no event where the kind is neither a refusal's nor a frame's
-unfoldable pub event_by : ℕ → List ℕ → Event
+unfoldable pub event_by : ℕ → List ℕ → Option Event
 event_by kind values =
     pick (eqb kind 5)
-    (Frame (get_or values 2 0) (get_or values 3 0) (get_or values 4 0) (get_or values 1 0))
-    (pick (leb 1 kind && leb kind 4) (Refused kind (get_or values 1 0)) Nothing)
+    (Some (Frame (get_or values 2 0) (get_or values 3 0) (get_or values 4 0) (get_or values 1 0)))
+    (pick (leb 1 kind && leb kind 4) (Some (Refused (refusal_of kind) (get_or values 1 0))) None)
 
-abbrev pub event_of : ℕ → Event
+abbrev pub event_of : ℕ → Option Event
 event_of n = event_by (get_or (values_of n) 0 0) (values_of n)
 
 abbrev pub offset_of : ℕ → ℕ
@@ -45,7 +52,7 @@ offset_of n = get_or (values_of n) 5 0
 -- ---- the law that `event_of` gives the event packed, and `offset_of` its offset; proofs/Unpacking.antt proves it
 -- an event without its payload
 abbrev pub without_payload : Emitted → Event
-without_payload (refusal n place) = Refused n place
+without_payload (refusal n place) = Refused (refusal_of n) place
 without_payload (frame major minor wrapper len payload) = Frame major minor wrapper len
 
 -- what an entry has room for
@@ -55,13 +62,13 @@ Packable (frame major minor wrapper len payload) = (major < 256) × (minor < 256
 
 abbrev pub EntryBack : Type 0
 EntryBack = (offset : ℕ) (e : Emitted) → offset < 65536 → Packable e
-    → (event_of (entry (found_at offset e)) ≡ without_payload e) × (offset_of (entry (found_at offset e)) ≡ offset)
+    → (event_of (entry (found_at offset e)) ≡ Some (without_payload e)) × (offset_of (entry (found_at offset e)) ≡ offset)
 
 -- ---- where payloads lie in the lent buffer, one behind the other
-abbrev pub payload_length : Event → ℕ
-payload_length Nothing = 0
-payload_length (Frame major minor wrapper len) = len
-payload_length (Refused n place) = 0
+abbrev pub payload_length : Option Event → ℕ
+payload_length None = 0
+payload_length (Some (Frame major minor wrapper len)) = len
+payload_length (Some (Refused r place)) = 0
 
 abbrev pub length_of : ℕ → ℕ
 length_of n = payload_length (event_of n)
@@ -84,22 +91,22 @@ example_frame p = refl
 example_refusal : entry (found_at 12 (refusal 3 3)) ≡ 0x000C000000000303
 example_refusal = refl
 
-example_frame_back : event_of 0xFFF580020101FB05 ≡ Frame 1 2 128 507
+example_frame_back : event_of 0xFFF580020101FB05 ≡ Some (Frame 1 2 128 507)
 unfolding event_by
 example_frame_back = refl
 
 example_offset_back : offset_of 0xFFF580020101FB05 ≡ 65525
 example_offset_back = refl
 
-example_refusal_back : event_of 0x000C000000000303 ≡ Refused 3 3
+example_refusal_back : event_of 0x000C000000000303 ≡ Some (Refused BadFrameSize 3)
 unfolding event_by
 example_refusal_back = refl
 
-example_zero : event_of 0 ≡ Nothing
+example_zero : event_of 0 ≡ None
 unfolding event_by
 example_zero = refl
 
-example_six : event_of 0x0006000001000306 ≡ Nothing
+example_six : event_of 0x0006000001000306 ≡ None
 unfolding event_by
 example_six = refl
 

@@ -1,10 +1,12 @@
 -- How the code looks ahead: what its own functions promise. None of it is needed to read the promises of the public ones.
-use Rattle.std.specs.Prelude.{ℕ, ◌+◌, ◌-◌, ◌≤◌, ◌<◌, ◌≡◌, List, [], ◌++◌, map, length, take, drop, get_or}
+use Rattle.std.specs.Prelude.{ℕ, ◌+◌, ◌-◌, ◌≤◌, ◌<◌, ◌≡◌, List, [], ◌++◌, map, length, take, drop, get_or, Option, Some, None}
 use Rattle.std.proofs.lemmas.List.Edits.{sets}
+use Rattle.wire.specs.Refusals.{number_of}
+use Rattle.wire.specs.declared.refusals.Refusal.{Refusal}
 use Rattle.line.specs.Receive.{frame_payload}
 use Rattle.line.specs.Line.{Emitted, emitted, Limits}
 use Rattle.line.specs.declared.Event.{Event}
-use Rattle.line.specs.declared.Event.TheVariants.{Nothing, Frame, Refused}
+use Rattle.line.specs.declared.Event.TheVariants.{Frame, Refused}
 use Rattle.capture.specs.Ahead.{Ahead, whole, start, bad_escape, end, ahead}
 use Rattle.capture.specs.Capture.{events_ahead, Found, found_at, found_from}
 use Rattle.capture.specs.Entry.{payload_length}
@@ -58,21 +60,21 @@ pub record Continues (s : List ℕ) (got at most : ℕ) (store : List ℕ) (got'
 
 -- ---- events
 abbrev pub no_event : ℕ → ℕ → NextEvent
-no_event offset next = record { event = Nothing; offset = offset; next = next }
+no_event offset next = record { event = None; offset = offset; next = next }
 
 -- a refusal at the byte before an offset of the capture
-abbrev pub refusal_at : ℕ → ℕ → ℕ → ℕ → NextEvent
-refusal_at n offset behind next = record { event = Refused n (behind - offset); offset = offset; next = next }
+abbrev pub refusal_at : Refusal → ℕ → ℕ → ℕ → NextEvent
+refusal_at r offset behind next = record { event = Some (Refused r (behind - offset)); offset = offset; next = next }
 
 -- what is found where no unescaped byte is
 abbrev pub stopped : ℕ → Ahead → List Emitted
 stopped place a = events_ahead place (λ n vs rest. []) a
 
 -- a payload of at most 507 bytes, which is in the store; a refusal 1 to 4 at a place of 1 to 1029
-abbrev pub Fits : Event → List ℕ → Type 0
-Fits Nothing store = Unit {0}
-Fits (Frame major minor wrapper len) store = (len ≤ 507) × (length (frame_payload len store) ≡ len)
-Fits (Refused n place) store = Limits n place
+abbrev pub Fits : Option Event → List ℕ → Type 0
+Fits None store = Unit {0}
+Fits (Some (Frame major minor wrapper len)) store = (len ≤ 507) × (length (frame_payload len store) ≡ len)
+Fits (Some (Refused r place)) store = Limits (number_of r) place
 
 -- the events of the frame whose start byte has an offset, from another offset of the capture on: one at most; and where to go on
 pub record NextIs (s : List ℕ) (offset at : ℕ) (events : List Emitted) (found : NextEvent) (store : List ℕ) : Type 0 where
@@ -96,13 +98,12 @@ pub record Looks (s : List ℕ) (from : ℕ) (found : NextEvent) (store : List �
   pub fits : Fits found.event store
 
 -- ---- the lent list and buffer
-abbrev pub event_count : Event → ℕ
-event_count Nothing = 0
-event_count (Frame major minor wrapper len) = 1
-event_count (Refused n place) = 1
+abbrev pub event_count : Option Event → ℕ
+event_count None = 0
+event_count (Some e) = 1
 
 -- there is room for an event's entry and payload at a place of each
-pub record Room (e : Event) (store list : List ℕ) (entries : ℕ) (buffer : List ℕ) (bytes : ℕ) : Type 0 where
+pub record Room (e : Option Event) (store list : List ℕ) (entries : ℕ) (buffer : List ℕ) (bytes : ℕ) : Type 0 where
   pub fits : Fits e store
   pub lists : entries + event_count e ≤ length list
   pub stores : bytes + payload_length e ≤ length buffer

@@ -7,11 +7,12 @@ ghost use Rattle.capture.specs.Capture as specs;
 ghost use Rattle.capture.specs.Looking.{NoneIn, StartFrom, Stuck, Takes, Continues, no_event, refusal_at, stopped, NextIs, Looks};
 
 use line::Event;
+use wire::Refusal;
 
-// An event, the offset of its start byte, and where to go on; where there is no event, that is the end of the capture.
+// An event, if there is one, the offset of its start byte, and where to go on: where there is none, that is the end of the capture.
 #[derive(Clone, Copy)]
 pub(crate) struct NextEvent {
-    pub(crate) event: Event,
+    pub(crate) event: Option<Event>,
     pub(crate) offset: usize,
     pub(crate) next: usize,
 }
@@ -126,28 +127,28 @@ fn nothing(s: &[u8], offset: usize) -> NextEvent
     ensures { result ≡ no_event offset (length s.now) }
 {
     NextEvent {
-        event: Event::Nothing,
+        event: None,
         offset,
         next: s.len(),
     }
 }
 
 // A refusal at the byte before `behind`.
-fn refused(number: u8, offset: usize, behind: usize, next: usize) -> NextEvent
+fn refused(refusal: Refusal, offset: usize, behind: usize, next: usize) -> NextEvent
     requires { offset ≤ behind }
-    ensures { result ≡ refusal_at number offset behind next }
+    ensures { result ≡ refusal_at refusal offset behind next }
 {
     NextEvent {
-        event: Event::Refused {
-            number,
+        event: Some(Event::Refused {
+            refusal,
             place: behind - offset,
-        },
+        }),
         offset,
         next,
     }
 }
 
-// What comes of a frame where no unescaped byte is found: 1 at a start byte, 2 at a bad escape, nothing at the end of the capture.
+// What comes of a frame where no unescaped byte is found: it is refused at a start byte and at a bad escape; nothing at the end of the capture.
 fn broken(s: &[u8], offset: usize, at: usize) -> NextEvent
     requires { (offset < at) × (at ≤ length s.now) × Stuck (ahead 1 (drop at s.now)) }
     ensures { (store : _) → NextIs s.now offset at (stopped (at - offset) (ahead 1 (drop at s.now))) result store }
@@ -157,19 +158,19 @@ fn broken(s: &[u8], offset: usize, at: usize) -> NextEvent
     }
     let next = at + 1;
     if s[at] == 0x7E {
-        return refused(1, offset, next, at);
+        return refused(Refusal::StartInFrame, offset, next, at);
     }
     if s.len() <= next {
         return nothing(s, offset);
     }
     let behind = at + 2;
     if s[next] == 0x7E {
-        return refused(1, offset, behind, next);
+        return refused(Refusal::StartInFrame, offset, behind, next);
     }
-    refused(2, offset, behind, behind)
+    refused(Refusal::BadEscape, offset, behind, behind)
 }
 
-// All bytes that the size counts are in the store: a frame, or 4 where its CRC differs.
+// All bytes that the size counts are in the store: a frame, refused where its CRC differs.
 fn checked(store: &[u8; 512], size: usize, offset: usize, behind: usize) -> NextEvent
     requires { (5 ≤ size) × (size ≤ 512) × (offset ≤ behind) }
     ensures { (emitted result.event store.now ≡ specs.checked size (behind - offset) (take size store.now))
@@ -177,27 +178,27 @@ fn checked(store: &[u8; 512], size: usize, offset: usize, behind: usize) -> Next
 {
     let at = size - 2;
     if crc::crc(&store[..at]) != wire::read_u16(store, at) {
-        return refused(4, offset, behind, behind);
+        return refused(Refusal::CrcDiffers, offset, behind, behind);
     }
     NextEvent {
-        event: Event::Frame {
+        event: Some(Event::Frame {
             major: store[0],
             minor: store[1],
             wrapper: store[2],
             len: size - 5,
-        },
+        }),
         offset,
         next: behind,
     }
 }
 
-// The size, up to the offset `at`: 3 where no frame has it, else what the bytes that it counts come to.
+// The size, up to the offset `at`: refused where no frame has it, else what the bytes that it counts come to.
 fn sized(s: &[u8], offset: usize, size: usize, at: usize, store: &mut [u8; 512]) -> NextEvent
     requires { (offset < at) × (at ≤ length s.now) }
     ensures { NextIs s.now offset at (specs.sized size (at - offset) (drop at s.now)) result store.new }
 {
     if size < 5 || 512 < size {
-        return refused(3, offset, at, at);
+        return refused(Refusal::BadFrameSize, offset, at, at);
     }
     let t = unescape(s, at, size, store);
     if t.got < size {

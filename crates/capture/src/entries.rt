@@ -1,9 +1,10 @@
 // Entries of the lent list: an event and the offset of its start byte as one number, and back. The C interface lends the list as 64-bit numbers.
 ghost use Rattle.std.specs.Prelude.{◌≡◌, ◌∷◌, [], ◌≤◌, ◌<◌, length, take};
+ghost use Rattle.wire.specs.Refusals.{number_of};
 ghost use Rattle.capture.specs.Entry as specs;
 
 use line::Event;
-use wire::Part;
+use wire::{Part, Refusal};
 
 // The number of eight bytes in which the fields stand.
 fn packed(kind: u8, count: u16, major: u8, minor: u8, wrapper: u8, offset: u16) -> u64
@@ -16,10 +17,10 @@ fn packed(kind: u8, count: u16, major: u8, minor: u8, wrapper: u8, offset: u16) 
 }
 
 // A refusal's entry.
-pub(crate) fn refusal(number: u8, place: u16, offset: u16) -> u64
-    ensures { result ≡ specs.packed (number ∷ place ∷ 0 ∷ 0 ∷ 0 ∷ offset ∷ []) }
+pub(crate) fn refusal(refusal: Refusal, place: u16, offset: u16) -> u64
+    ensures { result ≡ specs.packed (number_of refusal ∷ place ∷ 0 ∷ 0 ∷ 0 ∷ offset ∷ []) }
 {
-    packed(number, place, 0, 0, 0, offset)
+    packed(refusal.number(), place, 0, 0, 0, offset)
 }
 
 // A frame's entry.
@@ -29,26 +30,40 @@ pub(crate) fn frame(major: u8, minor: u8, wrapper: u8, len: u16, offset: u16) ->
     packed(5, len, major, minor, wrapper, offset)
 }
 
+// The refusal of an entry's kind.
+#[tactic(auto, using(crate::proofs::Packing::other_kind))]
+fn refusal_of_kind(kind: u8) -> Option<Refusal>
+    ensures { result ≡ specs.refusal_of_kind kind }
+{
+    match kind {
+        1 => Some(Refusal::StartInFrame),
+        2 => Some(Refusal::BadEscape),
+        3 => Some(Refusal::BadFrameSize),
+        4 => Some(Refusal::CrcDiffers),
+        _ => None,
+    }
+}
+
 // The event of an entry; none where its kind is neither a refusal's number nor a frame's.
-#[tactic(auto, using(crate::proofs::Packing::frame_event, crate::proofs::Packing::low_event, crate::proofs::Packing::high_event, crate::proofs::Packing::refusal_event))]
-pub fn event_of(entry: u64) -> Event
+#[tactic(auto, using(crate::proofs::Packing::frame_event, crate::proofs::Packing::no_event, crate::proofs::Packing::refusal_event))]
+pub fn event_of(entry: u64) -> Option<Event>
     ensures { result ≡ specs.event_of entry }
 {
     let bytes = wire::u64_bytes(entry);
     let count = usize::from(wire::read_u16(&bytes, 1));
-    match bytes[0] {
-        5 => Event::Frame {
+    if bytes[0] == 5 {
+        return Some(Event::Frame {
             major: bytes[3],
             minor: bytes[4],
             wrapper: bytes[5],
             len: count,
-        },
-        number @ 1..=4 => Event::Refused {
-            number,
-            place: count,
-        },
-        _ => Event::Nothing,
+        });
     }
+    let refusal = refusal_of_kind(bytes[0])?;
+    Some(Event::Refused {
+        refusal,
+        place: count,
+    })
 }
 
 // The offset of the event's start byte in the capture.
@@ -60,12 +75,12 @@ pub fn offset_of(entry: u64) -> usize
 }
 
 // How long an event's payload is.
-pub(crate) fn payload_length(e: Event) -> usize
+pub(crate) fn payload_length(e: Option<Event>) -> usize
     ensures { result ≡ specs.payload_length e }
 {
     match e {
-        Event::Frame { len, .. } => len,
-        Event::Nothing | Event::Refused { .. } => 0,
+        Some(Event::Frame { len, .. }) => len,
+        None | Some(Event::Refused { .. }) => 0,
     }
 }
 

@@ -12,28 +12,22 @@ ghost use Rattle.capture.specs.Looking.{found_in, event_count, Room, PutsEvent, 
 use ahead::NextEvent;
 pub use entries::{event_of, length_of, offset_of, payload_part};
 use line::Event;
+use wire::Refusal;
 
-// The answer: how many entries and how many payload bytes there are, or a refusal's number.
+// How many entries and how many payload bytes there are.
 #[derive(Clone, Copy)]
-pub enum Decoded {
-    Events { entries: usize, bytes: usize },
-    Refused(u8),
-}
-
-// So many entries and payload bytes.
-#[derive(Clone, Copy)]
-struct Counts {
-    entries: usize,
-    bytes: usize,
+pub struct Counts {
+    pub entries: usize,
+    pub bytes: usize,
 }
 
 // How many events there are: one or none.
-fn events_in(e: Event) -> usize
+fn events_in(e: Option<Event>) -> usize
     ensures { (result ≡ event_count e) × (result ≤ 1) }
 {
     match e {
-        Event::Nothing => 0,
-        Event::Frame { .. } | Event::Refused { .. } => 1,
+        None => 0,
+        Some(_) => 1,
     }
 }
 
@@ -70,20 +64,22 @@ fn put(
     ensures { PutsEvent (found_in found store.now) list.old entries buffer.old bytes list.new buffer.new }
 {
     let offset = found.offset as u16;
-    let e = found.event;
-    match e {
-        Event::Nothing => {}
-        Event::Frame {
-            major,
-            minor,
-            wrapper,
-            len,
-        } => {
+    match found.event {
+        None => {}
+        Some(
+            Event::Frame {
+                major,
+                minor,
+                wrapper,
+                len,
+            },
+        ) => {
             list[entries] = entries::frame(major, minor, wrapper, len as u16, offset);
-            wire::store(line::frame_payload(store, len), bytes, buffer);
+            // There is room.
+            let _ = wire::store(line::frame_payload(store, len), bytes, buffer);
         }
-        Event::Refused { number, place } => {
-            list[entries] = entries::refusal(number, place as u16, offset);
+        Some(Event::Refused { refusal, place }) => {
+            list[entries] = entries::refusal(refusal, place as u16, offset);
         }
     }
 }
@@ -123,18 +119,14 @@ fn write(s: &[u8], list: &mut [u64], buffer: &mut [u8]) -> Counts
 
 // The events of a capture, in order: an entry for each in `list`, and the frames' payloads, one behind the other, in `buffer`. 17 for a capture
 // of more than 65,536 bytes, then 25 where the list or the buffer is shorter than the answer; a refusal writes nothing.
-pub fn decode(capture: &[u8], list: &mut [u64], buffer: &mut [u8]) -> Decoded
+pub fn decode(capture: &[u8], list: &mut [u64], buffer: &mut [u8]) -> Result<Counts, Refusal>
     ensures { Decodes capture.now list.old buffer.old result list.new buffer.new }
 {
     if 65536 < capture.len() {
-        return Decoded::Refused(17);
+        return Err(Refusal::BadMessageData);
     }
     if short_of_room(capture, list.len(), buffer.len()) {
-        return Decoded::Refused(25);
+        return Err(Refusal::NoRoom);
     }
-    let c = write(capture, list, buffer);
-    Decoded::Events {
-        entries: c.entries,
-        bytes: c.bytes,
-    }
+    Ok(write(capture, list, buffer))
 }

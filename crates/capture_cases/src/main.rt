@@ -9,18 +9,18 @@
 
 ghost use Rattle.std.specs.Prelude.{◌≡◌, ◌+◌, ◌≤◌, ◌<◌, length};
 
-use capture::Decoded;
+use capture::Counts;
 use line::Event;
 use std::io;
 use text::reading;
-use wire::Part;
+use wire::{Part, Refusal};
 
 fn front(s: &[u8], n: usize) -> &[u8] {
     wire::part_of(s, Part { start: 0, len: n })
 }
 
 // `; OFFSET frame MAJOR MINOR TYPE LENGTH` and the payload, or `; OFFSET refused N PLACE`.
-fn event(out: &mut [u8], at: usize, offset: usize, e: Event, payload: &[u8]) -> usize {
+fn event(out: &mut [u8], at: usize, offset: usize, e: Option<Event>, payload: &[u8]) -> usize {
     let named = text::named(out, at, b"; ", offset as u64);
     let behind = listing::event_numbers(out, named, e);
     if payload.is_empty() {
@@ -63,7 +63,7 @@ struct Compared {
 fn compare(
     c: Compared,
     offset: usize,
-    e: Event,
+    e: Option<Event>,
     payload: &[u8],
     list: &[u64],
     buffer: &[u8],
@@ -97,7 +97,7 @@ fn compare(
 fn compare_any(
     c: Compared,
     offset: usize,
-    e: Event,
+    e: Option<Event>,
     store: &[u8; 512],
     list: &[u64],
     buffer: &[u8],
@@ -106,11 +106,11 @@ fn compare_any(
     ensures { result.bytes ≤ c.bytes + 65535 }
 {
     match e {
-        Event::Nothing => c,
-        Event::Frame { len, .. } => {
+        None => c,
+        Some(Event::Frame { len, .. }) => {
             compare(c, offset, e, line::frame_payload(store, len), list, buffer)
         }
-        Event::Refused { .. } => compare(c, offset, e, b"", list, buffer),
+        Some(Event::Refused { .. }) => compare(c, offset, e, b"", list, buffer),
     }
 }
 
@@ -230,9 +230,16 @@ fn first(list: &[u64], n: usize) -> &[u64] {
 }
 
 // What the decoder answered and left, and whether receiver and lister say the same.
-fn answer(out: &mut [u8], at: usize, s: &[u8], d: Decoded, list: &[u64], buffer: &[u8]) -> usize {
-    match d {
-        Decoded::Events { entries, bytes } => {
+fn answer(
+    out: &mut [u8],
+    at: usize,
+    s: &[u8],
+    answer: Result<Counts, Refusal>,
+    list: &[u64],
+    buffer: &[u8],
+) -> usize {
+    match answer {
+        Ok(Counts { entries, bytes }) => {
             let behind = text::named(out, at, b" entries ", entries as u64);
             let start = text::named(out, behind, b", bytes ", bytes as u64);
             let found = first(list, entries);
@@ -240,8 +247,8 @@ fn answer(out: &mut [u8], at: usize, s: &[u8], d: Decoded, list: &[u64], buffer:
             let end = rooms(out, told, list, buffer);
             verdicts(out, end, s, found, buffer)
         }
-        Decoded::Refused(n) => {
-            let behind = text::named(out, at, b" refused ", n as u64);
+        Err(refusal) => {
+            let behind = text::named(out, at, b" refused ", u64::from(refusal.number()));
             rooms(out, behind, list, buffer)
         }
     }

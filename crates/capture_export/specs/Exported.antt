@@ -1,16 +1,17 @@
 -- What the exported functions promise.
-use Rattle.std.specs.Prelude.{ℕ, ◌+◌, ◌<◌, ◌≡◌, List, [], ◌∷◌, length}
+use Rattle.std.specs.Prelude.{ℕ, ◌+◌, ◌<◌, ◌≡◌, List, [], ◌∷◌, length, Result, Ok, Err}
+use Rattle.wire.specs.Refusals.{number_of}
+use Rattle.wire.specs.declared.refusals.Refusal.{Refusal}
 use Rattle.line.specs.Receive.{fresh_receiver}
 use Rattle.line.specs.declared.Receiver.{Receiver}
 use Rattle.listing.specs.Listing.{Lists}
 use Rattle.capture.specs.Answer.{decoded_answer, list_after, buffer_after}
-use Rattle.capture.specs.declared.Decoded.{Decoded}
-use Rattle.capture.specs.declared.Decoded.TheVariants.{Events, Refused}
+use Rattle.capture.specs.declared.Counts.{Counts}
 
 -- an answer as three numbers: the refusal's or 0, then how many entries and how many payload bytes
-abbrev pub answer_numbers : Decoded → List ℕ
-answer_numbers (Events entries bytes) = 0 ∷ entries ∷ bytes ∷ []
-answer_numbers (Refused n) = n ∷ 0 ∷ 0 ∷ []
+abbrev pub answer_numbers : Result Counts Refusal → List ℕ
+answer_numbers (Ok c) = 0 ∷ c.entries ∷ c.bytes ∷ []
+answer_numbers (Err r) = number_of r ∷ 0 ∷ 0 ∷ []
 
 pub record DecodesInto (capture list buffer answer' list' buffer' : List ℕ) : Type 0 where
   pub answers : answer' ≡ answer_numbers (decoded_answer capture list buffer)

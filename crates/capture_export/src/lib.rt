@@ -4,15 +4,16 @@
 ghost use Rattle.capture_export.specs.Exported.{answer_numbers, DecodesInto, ListsFront};
 ghost use Rattle.std.specs.Prelude.{◌≡◌};
 
-use capture::Decoded;
+use capture::Counts;
+use wire::Refusal;
 
 // An answer as three numbers: the refusal's or 0, then how many entries and how many payload bytes.
-fn answer_numbers(d: Decoded) -> [u64; 3]
-    ensures { result ≡ answer_numbers d }
+fn answer_numbers(decoded: Result<Counts, Refusal>) -> [u64; 3]
+    ensures { result ≡ answer_numbers decoded }
 {
-    match d {
-        Decoded::Events { entries, bytes } => [0, entries as u64, bytes as u64],
-        Decoded::Refused(n) => [n as u64, 0, 0],
+    match decoded {
+        Ok(Counts { entries, bytes }) => [0, entries as u64, bytes as u64],
+        Err(refusal) => [u64::from(refusal.number()), 0, 0],
     }
 }
 
@@ -26,8 +27,7 @@ pub extern "C" fn cloudgraze_decode_capture(
 )
     ensures { DecodesInto capture.now list.old buffer.old answer.new list.new buffer.new }
 {
-    let d = capture::decode(capture, list, buffer);
-    *answer = answer_numbers(d);
+    *answer = answer_numbers(capture::decode(capture, list, buffer));
 }
 
 // The lister's lines of a capture, to a fresh receiver, at the front of `out`; the answer is where they end.

@@ -5,12 +5,14 @@ use native.Mathlib.Omega.{arith}
 use lib.ListN.{length, take, length-append, length-take}
 use lib.Dec.{eqb, leb}
 use borrow.Author.Tests.{leb-true}
+use Rattle.std.specs.Prelude.{Option, Some, None}
+use Rattle.wire.specs.Refusals.{number_of}
 use Rattle.wire.proofs.Choice.{pick_all}
 use Rattle.text.specs.Ascii.{ascii}
 use Rattle.text.specs.Digits.{decimal, hex}
 use Rattle.text.proofs.Digits.{decimal_length}
 use Rattle.line.specs.declared.Event.{Event}
-use Rattle.line.specs.declared.Event.TheVariants.{Nothing, Frame, Refused}
+use Rattle.line.specs.declared.Event.TheVariants.{Frame, Refused}
 use Rattle.listing.specs.Listing.{event_words}
 use Rattle.listing.proofs.Lines.{words_length}
 use Rattle.decoding.specs.Decoding.{reason, payload_text, details, event_line}
@@ -41,17 +43,17 @@ payload_within s =
     (λ f. omega (arith, leb-true (length s) 32 f, hex_length s))
     (λ f. omega (arith, length-append (hex (take 32 s)) (ascii ".."), hex_length (take 32 s), length-take 32 s)))
 
-details_within : (e : Event) (payload : List ℕ) → within (details e payload)
-details_within Nothing payload = omega arith
-details_within (Refused n place) payload = reason_within n
-details_within (Frame major minor wrapper len) payload = payload_within payload
+details_within : (e : Option Event) (payload : List ℕ) → within (details e payload)
+details_within None payload = omega arith
+details_within (Some (Refused r place)) payload = reason_within (number_of r)
+details_within (Some (Frame major minor wrapper len)) payload = payload_within payload
 
-event_words_length : (e : Event) → length (event_words e) ≤ 49
-event_words_length Nothing = omega arith
-event_words_length (Refused n place) = words_length (ascii "refused ") n place (omega arith)
-event_words_length (Frame major minor wrapper len) = words_length (ascii "frame ") wrapper len (omega arith)
+event_words_length : (e : Option Event) → length (event_words e) ≤ 49
+event_words_length None = omega arith
+event_words_length (Some (Refused r place)) = words_length (ascii "refused ") (number_of r) place (omega arith)
+event_words_length (Some (Frame major minor wrapper len)) = words_length (ascii "frame ") wrapper len (omega arith)
 
-pub line_length : (offset : ℕ) (e : Event) (payload : List ℕ) → length (event_line offset e payload) ≤ 160
+pub line_length : (offset : ℕ) (e : Option Event) (payload : List ℕ) → length (event_line offset e payload) ≤ 160
 line_length offset e payload =
     omega (
       arith,

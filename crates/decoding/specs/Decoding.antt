@@ -1,10 +1,12 @@
 -- The line of each event, for a person.
-use Rattle.std.specs.Prelude.{ℕ, ◌≡◌, refl, List, [], ◌∷◌, ◌++◌, length, take, replicate, eqb, leb}
+use Rattle.std.specs.Prelude.{ℕ, ◌≡◌, refl, List, [], ◌∷◌, ◌++◌, length, take, replicate, eqb, leb, Option, Some, None}
 use Rattle.wire.specs.Choice.{pick}
+use Rattle.wire.specs.Refusals.{number_of}
+use Rattle.wire.specs.declared.refusals.Refusal.TheVariants.{BadFrameSize}
 use Rattle.text.specs.Ascii.{ascii}
 use Rattle.text.specs.Digits.{decimal, decimal_in, hex}
 use Rattle.line.specs.declared.Event.{Event}
-use Rattle.line.specs.declared.Event.TheVariants.{Nothing, Frame, Refused}
+use Rattle.line.specs.declared.Event.TheVariants.{Frame, Refused}
 use Rattle.listing.specs.Listing.{event_words}
 
 -- when a refusal is given, in the words of document 01's table
@@ -25,21 +27,21 @@ payload_text payload =
     []
     (ascii ": " ++ pick (leb (length payload) 32) (hex payload) (hex (take 32 payload) ++ ascii ".."))
 
-abbrev pub details : Event → List ℕ → List ℕ
-details Nothing payload = []
-details (Frame major minor wrapper len) payload = payload_text payload
-details (Refused n place) payload = reason n
+abbrev pub details : Option Event → List ℕ → List ℕ
+details None payload = []
+details (Some (Frame major minor wrapper len)) payload = payload_text payload
+details (Some (Refused r place)) payload = reason (number_of r)
 
 -- OFFSET frame TYPE LENGTH: PAYLOAD, or OFFSET refused N PLACE: REASON
-abbrev pub event_line : ℕ → Event → List ℕ → List ℕ
+abbrev pub event_line : ℕ → Option Event → List ℕ → List ℕ
 event_line offset e payload = decimal offset ++ ascii " " ++ event_words e ++ details e payload ++ ascii "\n"
 
 -- ---- the frame at offset 6 of the sample, and the refusal at offset 58
-example_frame : event_line 6 (Frame 1 0 0 3) (0 ∷ 0 ∷ 0 ∷ []) ≡ ascii "6 frame 0 3: 000000\n"
+example_frame : event_line 6 (Some (Frame 1 0 0 3)) (0 ∷ 0 ∷ 0 ∷ []) ≡ ascii "6 frame 0 3: 000000\n"
 unfolding decimal_in hex payload_text
 example_frame = refl
 
-example_refused : event_line 58 (Refused 3 3) [] ≡ ascii "58 refused 3 3: size below 5 or above 512\n"
+example_refused : event_line 58 (Some (Refused BadFrameSize 3)) [] ≡ ascii "58 refused 3 3: size below 5 or above 512\n"
 unfolding decimal_in reason
 example_refused = refl
 

@@ -2,24 +2,24 @@
 #![tactic(auto)]
 
 ghost use Rattle.std.specs.Prelude.{◌≡◌, ◌+◌, ◌≤◌, length, IfOk};
+ghost use Rattle.wire.specs.Refusals.{number_of};
 ghost use Rattle.text.specs.Puts.{Puts};
 ghost use Rattle.decoding.specs.Decoding as specs;
 
-use capture::Decoded;
 use line::Event;
 use std::io;
-use wire::Part;
+use wire::{Part, Refusal};
 
-// Behind a refusal's number and place, when it is given: the words of document 01's table.
+// Behind a refusal's number and place, when it is given: the words of document 01's table; nothing where no byte of a line causes it.
 #[tactic(auto, using(text::proofs::Puts::puts_none), unfolding(crate::specs::Decoding::reason))]
-fn reason(out: &mut [u8], at: usize, number: u8) -> usize
-    ensures { Puts (specs.reason number) at out.old result out.new }
+fn reason(out: &mut [u8], at: usize, refusal: Refusal) -> usize
+    ensures { Puts (specs.reason (number_of refusal)) at out.old result out.new }
 {
-    match number {
-        1 => text::put(out, at, b": 7E inside an unfinished frame"),
-        2 => text::put(out, at, b": 5C followed by other than 3E, 1C or 7E"),
-        3 => text::put(out, at, b": size below 5 or above 512"),
-        4 => text::put(out, at, b": CRC differs"),
+    match refusal {
+        Refusal::StartInFrame => text::put(out, at, b": 7E inside an unfinished frame"),
+        Refusal::BadEscape => text::put(out, at, b": 5C followed by other than 3E, 1C or 7E"),
+        Refusal::BadFrameSize => text::put(out, at, b": size below 5 or above 512"),
+        Refusal::CrcDiffers => text::put(out, at, b": CRC differs"),
         _ => at,
     }
 }
@@ -42,18 +42,24 @@ fn payload_text(out: &mut [u8], at: usize, payload: &[u8]) -> usize
 }
 
 // What comes behind an event's words.
-fn details(out: &mut [u8], at: usize, e: Event, payload: &[u8]) -> usize
+fn details(out: &mut [u8], at: usize, e: Option<Event>, payload: &[u8]) -> usize
     ensures { Puts (specs.details e payload.now) at out.old result out.new }
 {
     match e {
-        Event::Nothing => at,
-        Event::Frame { .. } => payload_text(out, at, payload),
-        Event::Refused { number, .. } => reason(out, at, number),
+        None => at,
+        Some(Event::Frame { .. }) => payload_text(out, at, payload),
+        Some(Event::Refused { refusal, .. }) => reason(out, at, refusal),
     }
 }
 
 // An event's line: put into `out` from `at` on; the answer is where it ends.
-pub fn event_line(out: &mut [u8], at: usize, offset: usize, e: Event, payload: &[u8]) -> usize
+pub fn event_line(
+    out: &mut [u8],
+    at: usize,
+    offset: usize,
+    e: Option<Event>,
+    payload: &[u8],
+) -> usize
     ensures { Puts (specs.event_line offset e payload.now) at out.old result out.new }
 {
     let a = text::decimal(out, at, offset as u64);
@@ -111,11 +117,11 @@ fn print_capture<R: Print + Eprint>(rt: &R, capture: &[u8]) -> io::Result<()> {
     let mut list = entries_room();
     let mut payloads = console::large_buffer();
     match capture::decode(capture, &mut list, &mut payloads) {
-        Decoded::Events { entries, bytes: _ } => {
-            print_lines(rt, &list, entries, &payloads)?;
+        Ok(counts) => {
+            print_lines(rt, &list, counts.entries, &payloads)?;
             rt.write_all(b"end\n")
         }
-        Decoded::Refused(_) => {
+        Err(_) => {
             eprintln!(rt;
                 "capture_decoder: more than 65536 bytes; the line lister, ./list, takes any length"
             )

@@ -10,6 +10,7 @@ use lib.Seq.{sets, sets-eq, take_at, get_or_at}
 use lib.Bits.{bit_xor}
 use lib.Dec.{eqb}
 use borrow.Author.Tests.{eq-eqb, ne_eqb, eqb-true, eqb-false, le-leb}
+use Rattle.std.specs.Prelude.{Some}
 use Rattle.wire.specs.Choice.{pick}
 use Rattle.wire.specs.Numbers.{le, num}
 use Rattle.wire.proofs.Lists.{part_in}
@@ -81,7 +82,7 @@ taken_last n g k c v e l =
 
 -- what a frame's last byte does
 abbrev done : ℕ → ℕ → List ℕ → Step
-done size place s = step_to idle s (finished size place s)
+done size place s = step_to idle s (Some (finished size place s))
 
 reads : (n : ℕ) → 5 ≤ n → n ≤ 512 → (rest : List ℕ) (todo : List ℕ) (v g k c : ℕ) (s : List ℕ)
     → g ≡ k + 2 → k + length todo + 1 ≡ n → CountBounded (reading false 0 g n c)
@@ -183,7 +184,7 @@ pub frame_finished : (r : Receiver) (n : ℕ) (bs : List ℕ) → 5 ≤ n → n 
 unfolding run gives inside_gives
 frame_finished r n bs h5 h512 l hs =
     let s : List ℕ = bs ++ drop n r.store in
-    let e : List Emitted = emitted (finished n (length (wire_frame n bs)) s) s in
+    let e : List Emitted = emitted (Some (finished n (length (wire_frame n bs)) s)) s in
     ap (λ (x : List ℕ). run x r) (sym (append-nil (wire_frame n bs)))
     ∙ any_frame r n bs [] h5 h512 l hs
     ∙ ap (λ (z : List Emitted). at_start r ++ z) (append-nil e ∙ finished_gives n (length (wire_frame n bs)) s)
@@ -205,7 +206,7 @@ one_frame r wrapper payload rest hs hp =
     let t : List ℕ = drop n r.store in
     let lb : length bs ≡ n = omega (arith, length-append payload (le 2 (crc_of (covered wrapper payload)))) in
     any_frame r n bs rest (omega arith) (omega arith) lb (omega arith)
-    ∙ ap (λ (z : Event). at_start r ++ emitted_then (step_to idle (bs ++ t) z) (run rest)) (finished_body wrapper payload t (length (image wrapper payload)))
+    ∙ ap (λ (z : Event). at_start r ++ emitted_then (step_to idle (bs ++ t) (Some z)) (run rest)) (finished_body wrapper payload t (length (image wrapper payload)))
     ∙ ap (λ (z : List ℕ). at_start r ++ (frame 1 0 wrapper (length payload) z ∷ run rest (idle_receiver (bs ++ t)))) (payload_there wrapper payload t hp)
 
 -- idle, what is no start byte is dropped
@@ -252,7 +253,7 @@ act_kept : (a : Action) (s : List ℕ) → length (store_after a s) ≡ length s
 act_kept Keep s = refl
 act_kept (Put k v) s = length-set s k v
 act_kept (Finish k v n c) s = length-set s k v
-act_kept (Refuse n place) s = refl
+act_kept (Refuse r place) s = refl
 
 pub after_kept : (bs : List ℕ) (r : Receiver) → length (after bs r).store ≡ length r.store
 unfolding after

@@ -10,11 +10,12 @@ use lib.Seq.{drop-cons, drop-drop, take-nil}
 use lib.Dec.{eqb, ltb}
 use lib.Bits.{bit_xor}
 use borrow.Author.Tests.{ne_eqb, eqb-true, ltb-true, ltb-false}
+use Rattle.std.specs.Prelude.{Option, Some, None, is_some}
 use Rattle.wire.specs.Choice.{pick}
 use Rattle.wire.proofs.Choice.{pick_all, true_false}
 use Rattle.line.specs.Receive.{busy, reading, holding, step_to, step_of}
 use Rattle.line.specs.Moves.{move_of, taken_move, keep, store_after, event_of, ActsOn}
-use Rattle.line.specs.Feed.{Fed, fed, fed_to, silent, Feeds, Skips, CountBounded, Unescapes, Passes}
+use Rattle.line.specs.Feed.{Fed, fed, fed_to, Feeds, Skips, CountBounded, Unescapes, Passes}
 use Rattle.line.specs.Line.{Emitted, emitted, run, after}
 use Rattle.line.proofs.Gives.{step_gives}
 use Rattle.line.proofs.Run.{run_one, run_append}
@@ -28,29 +29,28 @@ use Rattle.line.specs.declared.Progress.{Progress}
 use Rattle.line.specs.declared.Move.{Move}
 use Rattle.line.specs.declared.Receiver.{Receiver}
 use Rattle.line.specs.declared.Event.{Event}
-use Rattle.line.specs.declared.Event.TheVariants.{Nothing, Frame, Refused}
 use Rattle.line.specs.declared.Step.{Step}
 
 -- ---- many bytes
 -- a feed of the bytes behind a step
 abbrev fed_after : ℕ → List ℕ → Step → Fed
 fed_after n bs t =
-    pick (silent t.event) (fed (suc n) bs t.receiver) (record { receiver = t.receiver; event = t.event; used = suc n })
+    pick (is_some t.event) (record { receiver = t.receiver; event = t.event; used = suc n }) (fed (suc n) bs t.receiver)
 
 fed_at : (s : List ℕ) (i : ℕ) (r : Receiver) (t : Step) → i < length s → t ≡ step_of r (get_or s i 0)
     → fed i (drop i s) r ≡ fed_after i (drop (suc i) s) t
 unfolding fed
 fed_at s i r t h e = ap (λ (l : List ℕ). fed i l r) (drop-cons s i 0 h) ∙ ap (fed_after i (drop (suc i) s)) (sym e)
 
-pub feed_next : (s : List ℕ) (i : ℕ) (r : Receiver) (t : Step) → i < length s → t ≡ step_of r (get_or s i 0) → silent t.event ≡ true
+pub feed_next : (s : List ℕ) (i : ℕ) (r : Receiver) (t : Step) → i < length s → t ≡ step_of r (get_or s i 0) → is_some t.event ≡ false
     → fed i (drop i s) r ≡ fed (i + 1) (drop (i + 1) s) t.receiver
 feed_next s i r t h e q = rw add-one (fed_at s i r t h e ∙ simp q)
 
-pub feed_stop : (s : List ℕ) (i : ℕ) (r : Receiver) (t : Step) → i < length s → t ≡ step_of r (get_or s i 0) → silent t.event ≡ false
+pub feed_stop : (s : List ℕ) (i : ℕ) (r : Receiver) (t : Step) → i < length s → t ≡ step_of r (get_or s i 0) → is_some t.event ≡ true
     → fed i (drop i s) r ≡ record { receiver = t.receiver; event = t.event; used = i + 1 }
 feed_stop s i r t h e q = rw add-one (fed_at s i r t h e ∙ simp q)
 
-pub feed_end : (s : List ℕ) (i : ℕ) (r : Receiver) → length s ≤ i → fed i (drop i s) r ≡ record { receiver = r; event = Nothing; used = i }
+pub feed_end : (s : List ℕ) (i : ℕ) (r : Receiver) → length s ≤ i → fed i (drop i s) r ≡ record { receiver = r; event = None; used = i }
 unfolding fed
 feed_end s i r h = ap (λ (l : List ℕ). fed i l r) (drop_of_length-le s h)
 
@@ -70,11 +70,11 @@ module _ (low got size count : ℕ) (h2 : 2 ≤ got) (h5 : 5 ≤ size) (h512 : s
   taken_puts w v = taken_more low size got (got - 2) (count + w) v (omega arith) (omega arith)
 
   -- at a place where a move is known
-  moved : (s st : List ℕ) (i : ℕ) (p : Progress) (m : Move) → i < length s → m ≡ move_of p (get_or s i 0) → event_of m.action (store_after m.action st) ≡ Nothing
+  moved : (s st : List ℕ) (i : ℕ) (p : Progress) (m : Move) → i < length s → m ≡ move_of p (get_or s i 0) → event_of m.action (store_after m.action st) ≡ None
       → fed i (drop i s) (holding p st) ≡ fed (i + 1) (drop (i + 1) s) (holding m.progress (store_after m.action st))
   moved s st i p m below e q =
-      feed_next s i (holding p st) (step_to m.progress (store_after m.action st) Nothing) below
-      (stepped p (get_or s i 0) st m (store_after m.action st) Nothing e (record { store = refl; event = sym q })) refl
+      feed_next s i (holding p st) (step_to m.progress (store_after m.action st) None) below
+      (stepped p (get_or s i 0) st m (store_after m.action st) None e (record { store = refl; event = sym q })) refl
 
   pub plain_next : (s st : List ℕ) (i : ℕ) → i < length s → (get_or s i 0 ≡ 0x7E → ⊥) → (get_or s i 0 ≡ 0x5C → ⊥)
       → Skips s i (holding (reading false low got size count) st) (i + 1) (holding (next 1) (set st (got - 2) (get_or s i 0)))
@@ -153,13 +153,13 @@ skips_from {s} {from} {to} {st} {r} h t e q =
     (subst (λ (x : Bool). Skips s from (holding (reading x h.low h.got h.size h.count) st) to r) (sym e) q)
 
 -- one turn of the loop that feeds: it continues with what is skipped behind the byte, or stops at the byte's event
-module _ (s : List ℕ) (i : ℕ) (h : Progress) (st : List ℕ) (m : Move) (l : List ℕ) (e : Event) (f : Fed) (below : i < length s)
+module _ (s : List ℕ) (i : ℕ) (h : Progress) (st : List ℕ) (m : Move) (l : List ℕ) (e : Option Event) (f : Fed) (below : i < length s)
     (p : m ≡ move_of h (get_or s i 0)) (o : ActsOn m.action st l e) (before : fed i (drop i s) (holding h st) ≡ f) where
-  pub feed_continues : {to : ℕ} {r : Receiver} → silent e ≡ true → Skips s (i + 1) (holding m.progress l) to r → fed to (drop to s) r ≡ f
+  pub feed_continues : {to : ℕ} {r : Receiver} → is_some e ≡ false → Skips s (i + 1) (holding m.progress l) to r → fed to (drop to s) r ≡ f
   feed_continues z k =
       sym k.same ∙ sym (feed_next s i (holding h st) (step_to m.progress l e) below (stepped h (get_or s i 0) st m l e p o) z) ∙ before
 
-  pub feed_stops : silent e ≡ false → fed_to m.progress l e (i + 1) ≡ f
+  pub feed_stops : is_some e ≡ true → fed_to m.progress l e (i + 1) ≡ f
   feed_stops z = sym (feed_stop s i (holding h st) (step_to m.progress l e) below (stepped h (get_or s i 0) st m l e p o) z) ∙ before
 
 -- a byte of noise
@@ -170,8 +170,8 @@ passes_next s from i below p before h st t =
     (record {
       forward = omega arith;
       same =
-          feed_next s i (holding h st) (step_to h st Nothing) below
-          (stepped h (get_or s i 0) st (keep h) st Nothing (simp (ne_eqb _ _ p, t)) (record { store = refl; event = refl })) refl;
+          feed_next s i (holding h st) (step_to h st None) below
+          (stepped h (get_or s i 0) st (keep h) st None (simp (ne_eqb _ _ p, t)) (record { store = refl; event = refl })) refl;
     })
 
 -- noise, up to a start byte
@@ -191,17 +191,16 @@ passes_noise {s} {from} {to} f = go (to - from) (omega (arith, f.forward)) (ltb 
 -- ---- what a feed hands out is what its bytes give one by one
 used_more : (n b : ℕ) (bs : List ℕ) (r : Receiver) → suc n ≤ (fed (suc n) bs (step_of r b).receiver).used → n < (fed n (b ∷ bs) r).used
 unfolding fed
-used_more n b bs r h = pick_all (λ (f : Fed). n < f.used) (silent (step_of r b).event) (λ e. h) (λ e. omega arith)
+used_more n b bs r h = pick_all (λ (f : Fed). n < f.used) (is_some (step_of r b).event) (λ e. omega arith) (λ e. h)
 
 used_from : (n : ℕ) (bs : List ℕ) (r : Receiver) → n ≤ (fed n bs r).used
 unfolding fed
 used_from n [] r = omega arith
 used_from n (b ∷ bs) r = omega (arith, used_more n b bs r (used_from (suc n) bs (step_of r b).receiver))
 
-silent_emitted : (e : Event) (s : List ℕ) → silent e ≡ true → emitted e s ≡ []
-silent_emitted Nothing s h = refl
-silent_emitted (Frame a b c d) s h = true_false (sym h)
-silent_emitted (Refused n place) s h = true_false (sym h)
+silent_emitted : (e : Option Event) (s : List ℕ) → is_some e ≡ false → emitted e s ≡ []
+silent_emitted None s h = refl
+silent_emitted (Some e) s h = true_false h
 
 -- the bytes that a feed used: what they give, and the receiver after them
 record OneByOne (bs : List ℕ) (r : Receiver) (f : Fed) : Type 0 where
@@ -209,7 +208,7 @@ record OneByOne (bs : List ℕ) (r : Receiver) (f : Fed) : Type 0 where
   receiver : f.receiver ≡ after bs r
 
 -- a byte without an event in front of the bytes that a feed used
-silent_then : (b : ℕ) (bs : List ℕ) (r : Receiver) (f : Fed) → silent (step_of r b).event ≡ true → OneByOne bs (step_of r b).receiver f → OneByOne (b ∷ bs) r f
+silent_then : (b : ℕ) (bs : List ℕ) (r : Receiver) (f : Fed) → is_some (step_of r b).event ≡ false → OneByOne bs (step_of r b).receiver f → OneByOne (b ∷ bs) r f
 unfolding run after
 silent_then b bs r f h o =
     record {
@@ -223,16 +222,16 @@ take_one n u b bs h = let e : u - n ≡ suc (u - suc n) = omega arith in ap (λ 
 fed_one_by_one : (n : ℕ) (bs : List ℕ) (r : Receiver) → OneByOne (take ((fed n bs r).used - n) bs) r (fed n bs r)
 unfolding fed run after
 fed_one_by_one n [] r =
-    subst (λ (l : List ℕ). OneByOne l r (record { receiver = r; event = Nothing; used = n })) (sym (take-nil (n - n))) (record { emits = refl; receiver = refl })
+    subst (λ (l : List ℕ). OneByOne l r (record { receiver = r; event = None; used = n })) (sym (take-nil (n - n))) (record { emits = refl; receiver = refl })
 fed_one_by_one n (b ∷ bs) r =
     let f : Fed = fed (suc n) bs (step_of r b).receiver in
-    pick_all (λ (x : Fed). OneByOne (take (x.used - n) (b ∷ bs)) r x) (silent (step_of r b).event)
-    (λ h. subst (λ (l : List ℕ). OneByOne l r f) (sym (take_one n f.used b bs (used_from (suc n) bs (step_of r b).receiver)))
-    (silent_then b (take (f.used - suc n) bs) r f h (fed_one_by_one (suc n) bs (step_of r b).receiver)))
+    pick_all (λ (x : Fed). OneByOne (take (x.used - n) (b ∷ bs)) r x) (is_some (step_of r b).event)
     (λ h.
     let e : suc n - n ≡ 1 = omega arith in
     subst (λ (k : ℕ). OneByOne (take k (b ∷ bs)) r (record { receiver = (step_of r b).receiver; event = (step_of r b).event; used = suc n })) (sym e)
     (record { emits = step_gives r b ∙ run_one r b; receiver = refl }))
+    (λ h. subst (λ (l : List ℕ). OneByOne l r f) (sym (take_one n f.used b bs (used_from (suc n) bs (step_of r b).receiver)))
+    (silent_then b (take (f.used - suc n) bs) r f h (fed_one_by_one (suc n) bs (step_of r b).receiver)))
 
 -- on a slice from a place of it on
 module _ (s : List ℕ) (from : ℕ) (r : Receiver) (f : Fed) (e : f ≡ fed from (drop from s) r) where

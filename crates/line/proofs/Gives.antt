@@ -7,6 +7,7 @@ use native.Mathlib.Omega.{arith}
 use lib.ListN.{take, set}
 use lib.Dec.{eqb}
 use borrow.Author.Tests.{eqb-true, ne_eqb}
+use Rattle.std.specs.Prelude.{Option, Some, None}
 use Rattle.wire.specs.Choice.{pick}
 use Rattle.wire.specs.Numbers.{num}
 use Rattle.wire.proofs.Choice.{pick_all}
@@ -17,7 +18,8 @@ use Rattle.line.specs.declared.Progress.{Progress}
 use Rattle.line.specs.declared.Receiver.{Receiver}
 use Rattle.line.specs.declared.Step.{Step}
 use Rattle.line.specs.declared.Event.{Event}
-use Rattle.line.specs.declared.Event.TheVariants.{Nothing, Refused}
+use Rattle.line.specs.declared.Event.TheVariants.{Refused}
+use Rattle.wire.specs.declared.refusals.Refusal.TheVariants.{StartInFrame}
 
 -- a step hands out these
 record Emits (t : Step) (es : List Emitted) : Type 0 where
@@ -27,13 +29,17 @@ pick_emits : (t : Bool) {x y : Step} {a b : List Emitted} → Emits x a → Emit
 pick_emits true p q = p
 pick_emits false p q = q
 
-pick_emitted : (t : Bool) (e f : Event) (s : List ℕ) → emitted (pick t e f) s ≡ pick t (emitted e s) (emitted f s)
+pick_emitted : (t : Bool) (e f : Option Event) (s : List ℕ) → emitted (pick t e f) s ≡ pick t (emitted e s) (emitted f s)
 pick_emitted true e f s = refl
 pick_emitted false e f s = refl
 
-pub finished_gives : (size place : ℕ) (s : List ℕ) → emitted (finished size place s) s ≡ frame_gives size place s
+pick_frame : (t : Bool) (e f : Event) (s : List ℕ) → emitted (Some (pick t e f)) s ≡ pick t (emitted (Some e) s) (emitted (Some f) s)
+pick_frame true e f s = refl
+pick_frame false e f s = refl
+
+pub finished_gives : (size place : ℕ) (s : List ℕ) → emitted (Some (finished size place s)) s ≡ frame_gives size place s
 unfolding finished frame_gives
-finished_gives size place s = pick_emitted (eqb (crc_of (take (size - 2) s)) (num 2 (size - 2) s)) _ _ s
+finished_gives size place s = pick_frame (eqb (crc_of (take (size - 2) s)) (num 2 (size - 2) s)) _ _ s
 
 -- an unescaped byte
 taken_gives : (p : Progress) (s : List ℕ) (v : ℕ) → Emits (taken (counted p) s v) (value_gives p (p.count + 1) s v)
@@ -68,7 +74,7 @@ step_emits : (r : Receiver) (b : ℕ) → Emits (step_of r b) (gives r b)
 unfolding step_of gives inside_gives
 step_emits r b =
     pick_all (λ (t : Step). Emits t (gives r b)) (eqb b 0x7E)
-    (λ e. record { same = rw e (pick_emitted (busy r.progress) (Refused 1 (r.progress.count + 1)) Nothing r.store) })
+    (λ e. record { same = rw e (pick_emitted (busy r.progress) (Some (Refused StartInFrame (r.progress.count + 1))) None r.store) })
     (λ e. pick_emits (busy r.progress) (in_frame_gives r.progress r.store b e) (record { same = refl }))
 
 -- The law: for every record and byte.

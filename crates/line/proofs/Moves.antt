@@ -6,6 +6,7 @@ use Prim.Native.Nat.{ℕ, ◌+◌, ◌-◌, ◌*◌, ◌≤◌, ◌<◌}
 use native.Mathlib.Omega.{arith}
 use lib.Dec.{leb, ltb, eqb}
 use borrow.Author.Tests.{leb-true, ltb-true, eqb-true, eqb-false, ne_eqb, le-leb, lt-ltb}
+use Rattle.std.specs.Prelude.{Option, Some, None}
 use Rattle.wire.specs.Choice.{pick}
 use Rattle.wire.proofs.Choice.{pick_all, and_holds}
 use Rattle.line.specs.Receive.{within, mid_frame, busy, counted, sized, stored, taken, unescaped, in_frame, step_of, reading, after_start, holding, step_to}
@@ -17,7 +18,8 @@ use Rattle.line.specs.declared.Progress.{Progress}
 use Rattle.line.specs.declared.Move.{Move}
 use Rattle.line.specs.declared.Receiver.{Receiver}
 use Rattle.line.specs.declared.Event.{Event}
-use Rattle.line.specs.declared.Event.TheVariants.{Nothing, Refused}
+use Rattle.line.specs.declared.Event.TheVariants.{Refused}
+use Rattle.wire.specs.declared.refusals.Refusal.TheVariants.{StartInFrame}
 use Rattle.line.specs.declared.Step.{Step}
 
 -- ---- the counts of a record that is inside a frame
@@ -57,7 +59,7 @@ taken_within p v h5 h512 hg =
     (λ e. let g : p.got ≡ p.size + 1 = eqb-true _ _ e in (omega arith, h5, h512))
     (λ e. let g : p.got ≡ p.size + 1 → ⊥ = eqb-false _ _ e in omega arith)))
 
-start_within : (p : Progress) (t : Bool) (place : ℕ) → MoveWithin (record { progress = p; action = pick t (Refuse 1 place) Keep })
+start_within : (p : Progress) (t : Bool) (place : ℕ) → MoveWithin (record { progress = p; action = pick t (Refuse StartInFrame place) Keep })
 unfolding MoveWithin
 start_within p true place = tt
 start_within p false place = tt
@@ -108,7 +110,7 @@ in_frame_acted p s b =
     (pick_acted (eqb b 0x5C) (is_acted _) (taken_acted p s b))
 
 start_acted : (s : List ℕ) (t : Bool) (place : ℕ)
-    → IsActed s (step_to after_start s (pick t (Refused 1 place) Nothing)) (record { progress = after_start; action = pick t (Refuse 1 place) Keep })
+    → IsActed s (step_to after_start s (pick t (Some (Refused StartInFrame place)) None)) (record { progress = after_start; action = pick t (Refuse StartInFrame place) Keep })
 start_acted s true place = record { same = refl }
 start_acted s false place = record { same = refl }
 
@@ -122,14 +124,14 @@ pub step_moves : (r : Receiver) (b : ℕ) → step_of r b ≡ acted (move_of r.p
 step_moves r b = (step_acted r b).same
 
 -- an action done, where it is known which
-pub acts_on : (a x : Action) (s : List ℕ) (e : Event) → a ≡ x → e ≡ event_of x (store_after x s) → ActsOn a s (store_after x s) e
+pub acts_on : (a x : Action) (s : List ℕ) (e : Option Event) → a ≡ x → e ≡ event_of x (store_after x s) → ActsOn a s (store_after x s) e
 acts_on a x s e h q = subst (λ (y : Action). ActsOn y s (store_after x s) e) (sym h) (record { store = refl; event = q })
 
 -- a step, from a move and what was done with the store
-pub stepped : (p : Progress) (b : ℕ) (s : List ℕ) (m : Move) (l : List ℕ) (e : Event)
+pub stepped : (p : Progress) (b : ℕ) (s : List ℕ) (m : Move) (l : List ℕ) (e : Option Event)
     → m ≡ move_of p b → ActsOn m.action s l e → step_to m.progress l e ≡ step_of (holding p s) b
 stepped p b s m l e h o =
-    ap₂ (λ (x : List ℕ) (y : Event). step_to m.progress x y) o.store o.event
+    ap₂ (λ (x : List ℕ) (y : Option Event). step_to m.progress x y) o.store o.event
     ∙ ap (λ (x : Move). acted x s) h
     ∙ sym (step_moves (holding p s) b)
 

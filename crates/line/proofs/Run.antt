@@ -7,7 +7,9 @@ use native.Mathlib.Omega.{arith}
 use lib.ListN.{take, set}
 use lib.Bits.{bit_xor}
 use lib.Dec.{eqb}
+use Rattle.std.specs.Prelude.{Option, Some}
 use Rattle.wire.specs.Numbers.{num}
+use Rattle.wire.specs.Refusals.{number_of}
 use Rattle.wire.proofs.Choice.{pick_all}
 use Rattle.crc.specs.Crc.{crc_of}
 use Rattle.line.specs.Receive.{within, busy, step_of}
@@ -19,6 +21,7 @@ use Rattle.line.specs.declared.Receiver.{Receiver}
 use Rattle.line.specs.declared.Step.{Step}
 use Rattle.line.specs.declared.Event.{Event}
 use Rattle.line.specs.declared.Event.TheVariants.{Refused}
+use Rattle.wire.specs.declared.refusals.Refusal.{Refusal}
 
 -- ---- one byte
 pub run_one : (r : Receiver) (b : ℕ) → gives r b ≡ run (b ∷ []) r
@@ -101,9 +104,9 @@ gives_limits r b =
     each (Given r.progress) Limits (λ n place h. (h.least, h.most, omega (arith, h.next), omega (arith, h.next, (busy_counts r.progress h.inside).1))) (gives r b) (gives_given r b)
 
 -- a step's refusal
-pub step_limits : (r : Receiver) (b n place : ℕ) → (step_of r b).event ≡ Refused n place → Limits n place
+pub step_limits : (r : Receiver) (b : ℕ) (n : Refusal) (place : ℕ) → (step_of r b).event ≡ Some (Refused n place) → Limits (number_of n) place
 step_limits r b n place e =
-    (subst (EachRefusal Limits) (sym (step_gives r b) ∙ ap (λ (x : Event). emitted x (step_of r b).receiver.store) e) (gives_limits r b)).0
+    (subst (EachRefusal Limits) (sym (step_gives r b) ∙ ap (λ (x : Option Event). emitted x (step_of r b).receiver.store) e) (gives_limits r b)).0
 
 -- every refusal that is handed out, whatever the bytes and the record
 pub run_limits : (bs : List ℕ) (r : Receiver) → EachRefusal Limits (run bs r)

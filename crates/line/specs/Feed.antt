@@ -1,33 +1,27 @@
 -- Many bytes at once, up to the next event.
-use Rattle.std.specs.Prelude.{ℕ, suc, ◌+◌, ◌-◌, ◌*◌, ◌≤◌, List, [], ◌∷◌, Bool, true, false, length, take, drop, set, ◌≡◌}
+use Rattle.std.specs.Prelude.{ℕ, suc, ◌+◌, ◌-◌, ◌*◌, ◌≤◌, List, [], ◌∷◌, false, length, take, drop, set, ◌≡◌, Option, None, is_some}
 use Rattle.wire.specs.Choice.{pick}
 use Rattle.line.specs.Receive.{step_of, busy, reading, holding}
 use Rattle.line.specs.Line.{emitted, run}
 use Rattle.line.specs.declared.Progress.{Progress}
 use Rattle.line.specs.declared.Receiver.{Receiver}
 use Rattle.line.specs.declared.Event.{Event}
-use Rattle.line.specs.declared.Event.TheVariants.{Nothing, Frame, Refused}
-
-abbrev pub silent : Event → Bool
-silent Nothing = true
-silent (Frame major minor wrapper len) = false
-silent (Refused n place) = false
 
 -- the receiver after some bytes, the event that they ended with, and the place behind them
 pub record Fed : Type 0 where
   pub receiver : Receiver
-  pub event : Event
+  pub event : Option Event
   pub used : ℕ
 
 -- the bytes, of which the first is counted n, one step each, up to the first event or to their end
 unfoldable pub fed : ℕ → List ℕ → Receiver → Fed
-fed n [] r = record { receiver = r; event = Nothing; used = n }
+fed n [] r = record { receiver = r; event = None; used = n }
 fed n (b ∷ bs) r =
-    pick (silent (step_of r b).event)
-    (fed (suc n) bs (step_of r b).receiver)
+    pick (is_some (step_of r b).event)
     (record { receiver = (step_of r b).receiver; event = (step_of r b).event; used = suc n })
+    (fed (suc n) bs (step_of r b).receiver)
 
-abbrev pub fed_to : Progress → List ℕ → Event → ℕ → Fed
+abbrev pub fed_to : Progress → List ℕ → Option Event → ℕ → Fed
 fed_to p s e used = record { receiver = holding p s; event = e; used = used }
 
 -- what a function promises that takes the bytes of s from a place on: its answer, and that what is handed out is what the bytes up to

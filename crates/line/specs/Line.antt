@@ -1,15 +1,16 @@
 -- A whole line: the frames on it and the noise between them, and what the receiver hands out.
-use Rattle.std.specs.Prelude.{ℕ, ◌+◌, ◌-◌, ◌*◌, ◌≤◌, ◌≡◌, List, [], ◌∷◌, ◌++◌, ◌||◌, length, take, get_or, set, eqb}
+use Rattle.std.specs.Prelude.{ℕ, ◌+◌, ◌-◌, ◌*◌, ◌≤◌, ◌≡◌, List, [], ◌∷◌, ◌++◌, ◌||◌, length, take, get_or, set, eqb, Option, Some, None}
 use Rattle.std.specs.Int.Bits.{bit_xor}
 use Rattle.wire.specs.Choice.{pick}
 use Rattle.wire.specs.Numbers.{num}
+use Rattle.wire.specs.Refusals.{number_of}
 use Rattle.crc.specs.Crc.{crc_of}
 use Rattle.frame.specs.Image.{image}
 use Rattle.line.specs.Receive.{within, busy, step_of, frame_payload}
 use Rattle.line.specs.declared.Progress.{Progress}
 use Rattle.line.specs.declared.Receiver.{Receiver}
 use Rattle.line.specs.declared.Event.{Event}
-use Rattle.line.specs.declared.Event.TheVariants.{Nothing, Frame, Refused}
+use Rattle.line.specs.declared.Event.TheVariants.{Frame, Refused}
 
 -- ---- what is handed out
 -- a refusal's number and place; or a frame: major, minor, wrapper type, payload length, and its payload as it stands in the store at that
@@ -61,13 +62,13 @@ after [] r = r
 after (b ∷ bs) r = after bs (step_of r b).receiver
 
 -- ---- what the code's event hands out, with the store after it
-abbrev pub emitted : Event → List ℕ → List Emitted
-emitted Nothing s = []
-emitted (Refused n place) s = refusal n place ∷ []
-emitted (Frame major minor wrapper len) s = frame major minor wrapper len (frame_payload len s) ∷ []
+abbrev pub emitted : Option Event → List ℕ → List Emitted
+emitted None s = []
+emitted (Some (Refused r place)) s = refusal (number_of r) place ∷ []
+emitted (Some (Frame major minor wrapper len)) s = frame major minor wrapper len (frame_payload len s) ∷ []
 
 -- what a function promises that takes one byte: the record after it, the event, and that it hands out what the byte gives
-pub record Received (r : Receiver) (b : ℕ) (r' : Receiver) (e : Event) : Type 0 where
+pub record Received (r : Receiver) (b : ℕ) (r' : Receiver) (e : Option Event) : Type 0 where
   pub receiver : r' ≡ (step_of r b).receiver
   pub event : e ≡ (step_of r b).event
   pub emits : emitted e r'.store ≡ gives r b

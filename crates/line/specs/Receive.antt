@@ -1,5 +1,5 @@
 -- What one byte does to the receiver: document 01, 'Line', and document 02 §4.
-use Rattle.std.specs.Prelude.{ℕ, ◌+◌, ◌-◌, ◌*◌, List, [], Bool, true, false, ◌&&◌, take, get_or, set, replicate, eqb, leb, ltb}
+use Rattle.std.specs.Prelude.{ℕ, ◌+◌, ◌-◌, ◌*◌, List, [], Bool, true, false, ◌&&◌, take, get_or, set, replicate, eqb, leb, ltb, Option, Some, None}
 use Rattle.wire.specs.Choice.{pick}
 use Rattle.wire.specs.Numbers.{num}
 use Rattle.wire.specs.Parts.{part, part_of}
@@ -8,7 +8,9 @@ use Rattle.line.specs.declared.Progress.{Progress}
 use Rattle.line.specs.declared.Receiver.{Receiver}
 use Rattle.line.specs.declared.Step.{Step}
 use Rattle.line.specs.declared.Event.{Event}
-use Rattle.line.specs.declared.Event.TheVariants.{Nothing, Frame, Refused}
+use Rattle.line.specs.declared.Event.TheVariants.{Frame, Refused}
+use Rattle.wire.specs.declared.refusals.Refusal.{Refusal}
+use Rattle.wire.specs.declared.refusals.Refusal.TheVariants.{StartInFrame, BadEscape, BadFrameSize, CrcDiffers}
 
 -- ---- the record
 -- idle, and inside a frame: whether the last byte was 5C, the size's low byte, how many unescaped bytes have come, the size, 5 until it
@@ -47,7 +49,7 @@ unfoldable pub busy : Progress → Bool
 busy p = mid_frame p && ltb p.count 1029
 
 -- ---- one byte: how the record stands after it, and the event
-abbrev pub step_to : Progress → List ℕ → Event → Step
+abbrev pub step_to : Progress → List ℕ → Option Event → Step
 step_to p s e = record { receiver = holding p s; event = e }
 
 -- a byte inside a frame counts, before it is looked at: a refusal's place is the count
@@ -55,56 +57,56 @@ abbrev pub counted : Progress → Progress
 counted p = record { inside = p.inside; escaped = p.escaped; low = p.low; got = p.got; size = p.size; count = p.count + 1 }
 
 -- a refused frame leaves the receiver idle
-abbrev pub refused_step : ℕ → ℕ → List ℕ → Step
-refused_step n place s = step_to idle s (Refused n place)
+abbrev pub refused_step : Refusal → ℕ → List ℕ → Step
+refused_step r place s = step_to idle s (Some (Refused r place))
 
 -- the size is complete: 3 where it is below 5 or above 512
 unfoldable pub sized : ℕ → ℕ → List ℕ → Step
-sized size count s = pick (within size) (step_to (reading false 0 2 size count) s Nothing) (refused_step 3 count s)
+sized size count s = pick (within size) (step_to (reading false 0 2 size count) s None) (refused_step BadFrameSize count s)
 
 -- the frame is complete: 4 where the CRC over major through payload differs
 unfoldable pub finished : ℕ → ℕ → List ℕ → Event
 finished size place s =
     pick (eqb (crc_of (take (size - 2) s)) (num 2 (size - 2) s))
     (Frame (get_or s 0 0) (get_or s 1 0) (get_or s 2 0) (size - 5))
-    (Refused 4 place)
+    (Refused CrcDiffers place)
 
 -- an unescaped byte after the size goes to the next place; the last one finishes the frame
 unfoldable pub stored : Progress → List ℕ → ℕ → Step
 stored p s v =
     pick (eqb p.got (p.size + 1))
-    (step_to idle (set s (p.got - 2) v) (finished p.size p.count (set s (p.got - 2) v)))
-    (step_to (reading false p.low (p.got + 1) p.size p.count) (set s (p.got - 2) v) Nothing)
+    (step_to idle (set s (p.got - 2) v) (Some (finished p.size p.count (set s (p.got - 2) v))))
+    (step_to (reading false p.low (p.got + 1) p.size p.count) (set s (p.got - 2) v) None)
 
 -- an unescaped byte: the size's low byte, its high byte, or one after the size
 unfoldable pub taken : Progress → List ℕ → ℕ → Step
 taken p s v =
     pick (eqb p.got 0)
-    (step_to (reading false v 1 p.size p.count) s Nothing)
+    (step_to (reading false v 1 p.size p.count) s None)
     (pick (eqb p.got 1)
     (sized (p.low + 256 * v) p.count s)
     (stored p s v))
 
 -- a byte after 5C that is no start byte: 2 where it is neither 3E nor 1C
 unfoldable pub unescaped : Progress → List ℕ → ℕ → Step
-unescaped p s b = pick (eqb b 0x3E) (taken p s 0x7E) (pick (eqb b 0x1C) (taken p s 0x5C) (refused_step 2 p.count s))
+unescaped p s b = pick (eqb b 0x3E) (taken p s 0x7E) (pick (eqb b 0x1C) (taken p s 0x5C) (refused_step BadEscape p.count s))
 
 -- a byte inside a frame that is no start byte
 unfoldable pub in_frame : Progress → List ℕ → ℕ → Step
 in_frame p s b =
     pick p.escaped
     (unescaped p s b)
-    (pick (eqb b 0x5C) (step_to (reading true p.low p.got p.size p.count) s Nothing) (taken p s b))
+    (pick (eqb b 0x5C) (step_to (reading true p.low p.got p.size p.count) s None) (taken p s b))
 
 -- 7E in any condition begins a new frame, inside an unfinished one with refusal 1, in whose place it counts too; idle, any other byte is
 -- dropped
 unfoldable pub step_of : Receiver → ℕ → Step
 step_of r b =
     pick (eqb b 0x7E)
-    (step_to after_start r.store (pick (busy r.progress) (Refused 1 (r.progress.count + 1)) Nothing))
+    (step_to after_start r.store (pick (busy r.progress) (Some (Refused StartInFrame (r.progress.count + 1))) None))
     (pick (busy r.progress)
     (in_frame (counted r.progress) r.store b)
-    (step_to r.progress r.store Nothing))
+    (step_to r.progress r.store None))
 
 -- ---- a frame's payload, 0 to 507 bytes, as it stands in the store behind major, minor and wrapper type
 abbrev pub frame_payload : ℕ → List ℕ → List ℕ

@@ -9,7 +9,7 @@ ghost use Rattle.line.specs.Feed.{Skips, CountBounded, Unescapes, Feeds};
 ghost use Rattle.line.specs.Moves as moves;
 ghost use Rattle.line.specs.Escapes.{StandsAt, NothingAt, FirstStart, stands_for_byte};
 
-use wire::Part;
+use wire::{Part, Refusal};
 
 #[derive(Clone, Copy)]
 pub struct Progress {
@@ -34,11 +34,10 @@ pub struct Receiver {
     pub store: [u8; 512],
 }
 
-// What a byte gives: nothing, a frame whose bytes stand in the store, or a refusal's number and place: the count of bytes on the line from
-// the frame's start byte, itself 1, up to and including the byte that caused the refusal.
+// What a byte may give: a frame whose bytes stand in the store, or a refusal and its place: the count of bytes on the line from the frame's
+// start byte, itself 1, up to and including the byte that caused the refusal.
 #[derive(Clone, Copy)]
 pub enum Event {
-    Nothing,
     Frame {
         major: u8,
         minor: u8,
@@ -46,16 +45,16 @@ pub enum Event {
         len: usize,
     },
     Refused {
-        number: u8,
+        refusal: Refusal,
         place: usize,
     },
 }
 
-// The record after a byte, and its event.
+// The record after a byte, and its event, if it gives one.
 #[derive(Clone, Copy)]
 pub struct Step {
     pub receiver: Receiver,
-    pub event: Event,
+    pub event: Option<Event>,
 }
 
 // What is to be done with the store: nothing, a byte written, a frame's last byte written, or nothing and a refusal. `at` is a place of the
@@ -74,7 +73,7 @@ enum Action {
         place: usize,
     },
     Refuse {
-        number: u8,
+        refusal: Refusal,
         place: usize,
     },
 }
@@ -125,12 +124,12 @@ pub fn fresh() -> Receiver
 }
 
 // A refusal that leaves the receiver idle.
-fn refuse(number: u8, place: usize) -> Move
-    ensures { result ≡ moves.refuse number place }
+fn refuse(refusal: Refusal, place: usize) -> Move
+    ensures { result ≡ moves.refuse refusal place }
 {
     Move {
         progress: idle(),
-        action: Action::Refuse { number, place },
+        action: Action::Refuse { refusal, place },
     }
 }
 
@@ -141,7 +140,7 @@ fn within(size: usize) -> bool
     (5..=512).contains(&size)
 }
 
-// The size is complete: 3 where no frame has that size.
+// The size is complete: refused where no frame has that size.
 #[tactic(auto, unfolding(crate::specs::Moves::sized_move))]
 fn sized(size: usize, count: usize) -> Move
     ensures { result ≡ moves.sized_move size count }
@@ -152,7 +151,7 @@ fn sized(size: usize, count: usize) -> Move
             action: Action::Keep,
         }
     } else {
-        refuse(3, count)
+        refuse(Refusal::BadFrameSize, count)
     }
 }
 
@@ -214,7 +213,7 @@ impl Progress {
         }
     }
 
-    // A byte after 5C that is no start byte: 2 where it is neither 3E nor 1C.
+    // A byte after 5C that is no start byte: refused where it is neither 3E nor 1C.
     #[tactic(auto, unfolding(crate::specs::Moves::unescaped_move))]
     fn unescaped(self, b: u8) -> Move
         requires { (self.size ≤ 512) × (self.got < self.size + 2) }
@@ -223,7 +222,7 @@ impl Progress {
         match b {
             0x3E => self.taken(0x7E),
             0x1C => self.taken(0x5C),
-            _ => refuse(2, self.count),
+            _ => refuse(Refusal::BadEscape, self.count),
         }
     }
 
@@ -260,7 +259,7 @@ impl Progress {
                 Move {
                     progress,
                     action: Action::Refuse {
-                        number: 1,
+                        refusal: Refusal::StartInFrame,
                         place: self.count + 1,
                     },
                 }
@@ -281,7 +280,7 @@ impl Progress {
     }
 }
 
-// A frame of this size is complete in the store: 4 where its CRC differs.
+// A frame of this size is complete in the store: refused where its CRC differs.
 #[tactic(auto, unfolding(crate::specs::Receive::finished))]
 fn finished(store: &[u8; 512], size: usize, place: usize) -> Event
     requires { (5 ≤ size) × (size ≤ 512) }
@@ -296,20 +295,23 @@ fn finished(store: &[u8; 512], size: usize, place: usize) -> Event
             len: size - 5,
         }
     } else {
-        Event::Refused { number: 4, place }
+        Event::Refused {
+            refusal: Refusal::CrcDiffers,
+            place,
+        }
     }
 }
 
 // The action is done: the store is written, in one place at most, and the event given.
-fn acted(store: &mut [u8; 512], action: Action) -> Event
+fn acted(store: &mut [u8; 512], action: Action) -> Option<Event>
     requires { moves.WithinLimits action }
     ensures { moves.ActsOn action store.old store.new result }
 {
     match action {
-        Action::Keep => Event::Nothing,
+        Action::Keep => None,
         Action::Put { at, byte } => {
             store[at] = byte;
-            Event::Nothing
+            None
         }
         Action::Finish {
             at,
@@ -318,14 +320,14 @@ fn acted(store: &mut [u8; 512], action: Action) -> Event
             place,
         } => {
             store[at] = byte;
-            finished(store, size, place)
+            Some(finished(store, size, place))
         }
-        Action::Refuse { number, place } => Event::Refused { number, place },
+        Action::Refuse { refusal, place } => Some(Event::Refused { refusal, place }),
     }
 }
 
 impl Receiver {
-    // One byte: the record after it, and the event.
+    // One byte: the record after it, and its event.
     #[tactic(auto, using(crate::proofs::Moves::move_limits))]
     pub fn step(self, b: u8) -> Step
         ensures { Received self b result.receiver result.event }
@@ -338,13 +340,6 @@ impl Receiver {
             event,
         }
     }
-}
-
-// Whether there is no event.
-fn silent(e: Event) -> bool
-    ensures { result ≡ feeding.silent e }
-{
-    matches!(e, Event::Nothing)
 }
 
 // The progress after bytes that gave no event, and the place behind them.
@@ -464,11 +459,11 @@ fn skip(progress: Progress, store: &mut [u8; 512], s: &[u8], from: usize) -> Ski
     )
 }
 
-// The progress after some bytes, the event that they ended with, and the place behind them.
+// The progress after some bytes, the event that they ended with, if any, and the place behind them.
 #[derive(Clone, Copy)]
 pub struct Advanced {
     pub progress: Progress,
-    pub event: Event,
+    pub event: Option<Event>,
     pub used: usize,
 }
 
@@ -487,7 +482,7 @@ pub fn advance(start: Progress, store: &mut [u8; 512], s: &[u8], from: usize) ->
         } = progress.step(*b);
         let event = acted(store, action);
         i += 1;
-        if !silent(event) {
+        if event.is_some() {
             return Advanced {
                 progress: next,
                 event,
@@ -500,7 +495,7 @@ pub fn advance(start: Progress, store: &mut [u8; 512], s: &[u8], from: usize) ->
     }
     Advanced {
         progress,
-        event: Event::Nothing,
+        event: None,
         used: i,
     }
 }
@@ -516,7 +511,7 @@ pub fn frame_payload(store: &[u8], len: usize) -> &[u8]
 }
 
 // One byte: the record is brought up to date in place, and its event is given.
-pub fn receive(r: &mut Receiver, b: u8) -> Event
+pub fn receive(r: &mut Receiver, b: u8) -> Option<Event>
     ensures { Received r.old b r.new result }
 {
     let Step { receiver, event } = r.step(b);

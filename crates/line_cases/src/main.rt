@@ -13,7 +13,7 @@ ghost use Rattle.std.specs.Prelude.{◌≤◌, ◌<◌, length};
 use line::{Event, Progress, Receiver};
 use std::io;
 use text::reading;
-use wire::{Part, Written};
+use wire::{Part, Refusal};
 
 // The record after some bytes, and the place behind the text of their events.
 #[derive(Clone, Copy)]
@@ -38,11 +38,11 @@ fn runs(out: &mut [u8], at: usize, s: &[u8]) -> usize {
 }
 
 // ` frame MAJOR MINOR TYPE LENGTH` and the payload, or ` refused N PLACE`.
-fn event(out: &mut [u8], at: usize, e: Event, store: &[u8; 512]) -> usize {
+fn event(out: &mut [u8], at: usize, e: Option<Event>, store: &[u8; 512]) -> usize {
     let behind = listing::event_numbers(out, at, e);
     match e {
-        Event::Frame { len, .. } => runs(out, behind, line::frame_payload(store, len)),
-        Event::Nothing | Event::Refused { .. } => behind,
+        Some(Event::Frame { len, .. }) => runs(out, behind, line::frame_payload(store, len)),
+        None | Some(Event::Refused { .. }) => behind,
     }
 }
 
@@ -149,10 +149,10 @@ fn named_record(line: &[u8]) -> Receiver {
     }
 }
 
-fn answer(out: &mut [u8], at: usize, w: Written) -> usize {
-    match w {
-        Written::Wrote(n) => text::named(out, at, b" wrote ", n as u64),
-        Written::Refused(n) => text::named(out, at, b" refused ", n as u64),
+fn answer(out: &mut [u8], at: usize, written: Result<usize, Refusal>) -> usize {
+    match written {
+        Ok(n) => text::named(out, at, b" wrote ", n as u64),
+        Err(refusal) => text::named(out, at, b" refused ", u64::from(refusal.number())),
     }
 }
 

@@ -7,6 +7,8 @@ use native.Mathlib.Nat.{eq-or-lt_of_le}
 use native.Mathlib.Omega.{arith}
 use lib.ListN.{length, take, drop, length-append, length-take}
 use lib.Seq.{take-add, take_all, drop-drop}
+use Rattle.std.specs.Prelude.{Option, Some, None}
+use Rattle.wire.specs.Refusals.{number_of}
 use Rattle.text.specs.Ascii.{ascii}
 use Rattle.text.specs.Digits.{decimal}
 use Rattle.text.specs.Puts.{Puts}
@@ -16,11 +18,11 @@ use Rattle.line.specs.Line.{Emitted, refusal, frame, emitted, run, after}
 use Rattle.line.specs.Feed.{Feeds}
 use Rattle.line.proofs.Run.{run_append, after_append}
 use Rattle.line.proofs.Feeding.{feeds_after, feeds_forward}
-use Rattle.listing.specs.Listing.{words, words_line, frame_line, refused_line, event_text, lines_of, between, Lists}
+use Rattle.listing.specs.Listing.{words, words_line, frame_line, refused_line, event_words, event_text, lines_of, between, Lists}
 use Rattle.line.specs.declared.Receiver.{Receiver}
 use Rattle.line.specs.Feed.{Fed}
 use Rattle.line.specs.declared.Event.{Event}
-use Rattle.line.specs.declared.Event.TheVariants.{Nothing, Frame, Refused}
+use Rattle.line.specs.declared.Event.TheVariants.{Frame, Refused}
 
 -- ---- an event's line, part by part
 pub words_put : (word : List ℕ) (a b : ℕ) {room m after : List ℕ} {at p q : ℕ} → Puts (word ++ decimal a) at room p m → Puts (ascii " " ++ decimal b) p m q after
@@ -42,17 +44,22 @@ words_length word a b h =
 words_line_length : (word : List ℕ) (a b : ℕ) → length word ≤ 8 → length (words_line word a b) ≤ 50
 words_line_length word a b h = omega (arith, words_length word a b h, length-append (words word a b) (ascii "\n"))
 
-event_length : (e : Event) → length (event_text e) ≤ 50
-event_length Nothing = omega arith
-event_length (Refused n place) = words_line_length (ascii "refused ") n place (omega arith)
-event_length (Frame major minor w l) = words_line_length (ascii "frame ") w l (omega arith)
+event_length : (e : Option Event) → length (event_text e) ≤ 50
+event_length None = omega arith
+event_length (Some (Refused r place)) = words_line_length (ascii "refused ") (number_of r) place (omega arith)
+event_length (Some (Frame major minor w l)) = words_line_length (ascii "frame ") w l (omega arith)
+
+-- an event's line is its words and what ends a line
+pub line_words : (e : Event) → event_text (Some e) ≡ event_words (Some e) ++ ascii "\n"
+line_words (Frame major minor w l) = refl
+line_words (Refused r place) = refl
 
 -- ---- the lines of what is handed out
-lines_event : (e : Event) (s : List ℕ) → lines_of (emitted e s) ≡ event_text e
+lines_event : (e : Option Event) (s : List ℕ) → lines_of (emitted e s) ≡ event_text e
 unfolding lines_of
-lines_event Nothing s = refl
-lines_event (Refused n place) s = append-nil (refused_line n place)
-lines_event (Frame major minor w l) s = append-nil (frame_line w l)
+lines_event None s = refl
+lines_event (Some (Refused r place)) s = append-nil (refused_line (number_of r) place)
+lines_event (Some (Frame major minor w l)) s = append-nil (frame_line w l)
 
 lines_append : (a b : List Emitted) → lines_of (a ++ b) ≡ lines_of a ++ lines_of b
 unfolding lines_of

@@ -1,22 +1,24 @@
 -- The line of each event, and what a part of a capture lists.
-use Rattle.std.specs.Prelude.{ℕ, ◌-◌, ◌≤◌, ◌≡◌, refl, List, [], ◌∷◌, ◌++◌, length, take, drop}
+use Rattle.std.specs.Prelude.{ℕ, ◌-◌, ◌≤◌, ◌≡◌, refl, List, [], ◌∷◌, ◌++◌, length, take, drop, Option, Some, None}
+use Rattle.wire.specs.Refusals.{number_of}
 use Rattle.text.specs.Ascii.{ascii}
 use Rattle.text.specs.Digits.{decimal, decimals, decimal_in}
 use Rattle.text.specs.Puts.{Puts}
 use Rattle.line.specs.Line.{Emitted, refusal, frame, run, after}
 use Rattle.line.specs.declared.Receiver.{Receiver}
 use Rattle.line.specs.declared.Event.{Event}
-use Rattle.line.specs.declared.Event.TheVariants.{Nothing, Frame, Refused}
+use Rattle.line.specs.declared.Event.TheVariants.{Frame, Refused}
+use Rattle.wire.specs.declared.refusals.Refusal.TheVariants.{BadEscape}
 
 -- a word and two numbers
 abbrev pub words : List ℕ → ℕ → ℕ → List ℕ
 words word a b = word ++ decimal a ++ ascii " " ++ decimal b
 
 -- what an event is, nothing where there is none: frame TYPE LENGTH, refused N PLACE
-abbrev pub event_words : Event → List ℕ
-event_words Nothing = []
-event_words (Frame major minor wrapper len) = words (ascii "frame ") wrapper len
-event_words (Refused n place) = words (ascii "refused ") n place
+abbrev pub event_words : Option Event → List ℕ
+event_words None = []
+event_words (Some (Frame major minor wrapper len)) = words (ascii "frame ") wrapper len
+event_words (Some (Refused r place)) = words (ascii "refused ") (number_of r) place
 
 abbrev pub words_line : List ℕ → ℕ → ℕ → List ℕ
 words_line word a b = words word a b ++ ascii "\n"
@@ -29,16 +31,16 @@ abbrev pub refused_line : ℕ → ℕ → List ℕ
 refused_line n place = words_line (ascii "refused ") n place
 
 -- an event's line, nothing where there is none
-abbrev pub event_text : Event → List ℕ
-event_text Nothing = []
-event_text (Frame major minor wrapper len) = frame_line wrapper len
-event_text (Refused n place) = refused_line n place
+abbrev pub event_text : Option Event → List ℕ
+event_text None = []
+event_text (Some (Frame major minor wrapper len)) = frame_line wrapper len
+event_text (Some (Refused r place)) = refused_line (number_of r) place
 
 -- an event with all its numbers, behind a space: frame MAJOR MINOR TYPE LENGTH, refused N PLACE
-abbrev pub event_numbers : Event → List ℕ
-event_numbers Nothing = []
-event_numbers (Frame major minor wrapper len) = ascii " frame" ++ decimals (major ∷ minor ∷ wrapper ∷ len ∷ [])
-event_numbers (Refused n place) = ascii " refused" ++ decimals (n ∷ place ∷ [])
+abbrev pub event_numbers : Option Event → List ℕ
+event_numbers None = []
+event_numbers (Some (Frame major minor wrapper len)) = ascii " frame" ++ decimals (major ∷ minor ∷ wrapper ∷ len ∷ [])
+event_numbers (Some (Refused r place)) = ascii " refused" ++ decimals (number_of r ∷ place ∷ [])
 
 -- the lines of all that is handed out
 unfoldable pub lines_of : List Emitted → List ℕ
@@ -59,18 +61,18 @@ pub record Lists (s : List ℕ) (from : ℕ) (r : Receiver) (to : ℕ) (r' : Rec
   pub whole : at ≡ length (lines_of (run (between from to s) r))
 
 -- ---- frame 128 507, frame 0 3, frame 1 0 128 507, refused 2 208
-example_long : event_text (Frame 1 0 128 507) ≡ ascii "frame 128 507\n"
+example_long : event_text (Some (Frame 1 0 128 507)) ≡ ascii "frame 128 507\n"
 unfolding decimal_in
 example_long = refl
 
-example_short : event_text (Frame 1 0 0 3) ≡ ascii "frame 0 3\n"
+example_short : event_text (Some (Frame 1 0 0 3)) ≡ ascii "frame 0 3\n"
 unfolding decimal_in
 example_short = refl
 
-example_numbers : event_numbers (Frame 1 0 128 507) ≡ ascii " frame 1 0 128 507"
+example_numbers : event_numbers (Some (Frame 1 0 128 507)) ≡ ascii " frame 1 0 128 507"
 unfolding decimal_in decimals
 example_numbers = refl
 
-example_refused : event_text (Refused 2 208) ≡ ascii "refused 2 208\n"
+example_refused : event_text (Some (Refused BadEscape 208)) ≡ ascii "refused 2 208\n"
 unfolding decimal_in
 example_refused = refl

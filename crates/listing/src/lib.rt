@@ -13,65 +13,53 @@ use std::io;
 use std::io::Read;
 
 // `frame TYPE LENGTH` or `refused N PLACE`, nothing where there is no event: put into `out` from `at` on; the answer is where it ends.
-pub fn event_words(out: &mut [u8], at: usize, e: Event) -> usize
+pub fn event_words(out: &mut [u8], at: usize, e: Option<Event>) -> usize
     ensures { Puts (event_words e) at out.old result out.new }
 {
     match e {
-        Event::Nothing => at,
-        Event::Frame {
-            major: _,
-            minor: _,
-            wrapper,
-            len,
-        } => {
+        None => at,
+        Some(Event::Frame { wrapper, len, .. }) => {
             let a = text::named(out, at, b"frame ", wrapper as u64);
             text::named(out, a, b" ", len as u64)
         }
-        Event::Refused { number, place } => {
-            let a = text::named(out, at, b"refused ", number as u64);
+        Some(Event::Refused { refusal, place }) => {
+            let a = text::named(out, at, b"refused ", refusal.number() as u64);
             text::named(out, a, b" ", place as u64)
         }
     }
 }
 
 // The same as a line.
-pub fn event_line(out: &mut [u8], at: usize, e: Event) -> usize
+pub fn event_line(out: &mut [u8], at: usize, e: Option<Event>) -> usize
     ensures { Puts (event_text e) at out.old result out.new }
 {
     let behind = event_words(out, at, e);
     match e {
-        Event::Nothing => behind,
-        Event::Frame {
-            major: _,
-            minor: _,
-            wrapper: _,
-            len: _,
-        } => text::put(out, behind, b"\n"),
-        Event::Refused {
-            number: _,
-            place: _,
-        } => text::put(out, behind, b"\n"),
+        None => behind,
+        Some(_) => text::put(out, behind, b"\n"),
     }
 }
 
 // ` frame MAJOR MINOR TYPE LENGTH` or ` refused N PLACE`, nothing where there is no event.
-pub fn event_numbers(out: &mut [u8], at: usize, e: Event) -> usize
+pub fn event_numbers(out: &mut [u8], at: usize, e: Option<Event>) -> usize
     ensures { Puts (event_numbers e) at out.old result out.new }
 {
     match e {
-        Event::Nothing => at,
-        Event::Frame {
-            major,
-            minor,
-            wrapper,
-            len,
-        } => {
+        None => at,
+        Some(
+            Event::Frame {
+                major,
+                minor,
+                wrapper,
+                len,
+            },
+        ) => {
             let numbers = [major as u64, minor as u64, wrapper as u64, len as u64];
             let behind = text::put(out, at, b" frame");
             text::decimals(out, behind, &numbers)
         }
-        Event::Refused { number, place } => {
-            let numbers = [number as u64, place as u64];
+        Some(Event::Refused { refusal, place }) => {
+            let numbers = [refusal.number() as u64, place as u64];
             let behind = text::put(out, at, b" refused");
             text::decimals(out, behind, &numbers)
         }

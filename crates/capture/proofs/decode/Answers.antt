@@ -4,8 +4,6 @@ use Rattle.capture.proofs.decode.Goals as goal
 
 pub returns : goal.returns
 returns c =
-    let w = c in
-    let b = w in
-    let a = b.args in
-    decodes_all a.capture.now a.list.now a.buffer.now b.if-capture-gt65536.false b.short_of_room.ensures w.if-short_of_room.false
-    w.write-c.ensures.0 w.write-c.ensures.1
+    let a = c.args in
+    decodes_all a.capture.now a.list.now a.buffer.now c.if-capture-gt65536.false c.short_of_room.ensures c.if-short_of_room.false
+    c.write.ensures.0 c.write.ensures.1

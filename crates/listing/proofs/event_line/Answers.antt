@@ -1,13 +1,10 @@
 -- `event_line` meets its contract. Assumes nothing.
-use Rattle.text.proofs.Puts.{puts_then}
+use mathlib.Core.Path.{sym}
+use Rattle.text.proofs.Puts.{puts_then, puts_same}
+use Rattle.listing.proofs.Lines.{line_words}
 use Rattle.listing.proofs.event_line.Goals as goal
 
-pub returns-in-Frame : goal.returns-in-Frame
-returns-in-Frame c =
-    let e = c.in-Frame.is in
-    rw e (puts_then (rw e at c.event_words-behind.ensures) c.put.ensures)
-
-pub returns-in-Refused : goal.returns-in-Refused
-returns-in-Refused c =
-    let e = c.in-Refused.is in
-    rw e (puts_then (rw e at c.event_words-behind.ensures) c.put-in-Refused.ensures)
+pub returns-in-Some : goal.returns-in-Some
+returns-in-Some c =
+    let e = c.in-Some.is in
+    rw e (puts_same (puts_then (rw e at c.event_words-behind.ensures) c.put.ensures) (sym (line_words _)))

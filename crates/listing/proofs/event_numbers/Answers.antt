@@ -2,12 +2,13 @@
 use Rattle.text.proofs.Puts.{puts_then}
 use Rattle.listing.proofs.event_numbers.Goals as goal
 
-pub returns-in-Frame : goal.returns-in-Frame
-returns-in-Frame c =
-    let m = c in
-    rw c.in-Frame.is (puts_then m.put-behind.ensures c.decimals.ensures)
+pub returns-in-Some-Frame : goal.returns-in-Some-Frame
+returns-in-Some-Frame c =
+    let e = c.in-Some-Frame.is in
+    rw (e, rw e at c.in-Some-Frame.field-0-is) (puts_then c.put-behind.ensures c.decimals.ensures)
 
-pub returns-in-Refused : goal.returns-in-Refused
-returns-in-Refused c =
-    let m = c in
-    rw c.in-Refused.is (puts_then m.put-behind-in-Refused.ensures c.decimals-in-Refused.ensures)
+pub returns-in-Some-Refused : goal.returns-in-Some-Refused
+returns-in-Some-Refused c =
+    let e = c.in-Some-Refused.is in
+    rw (e, rw e at c.in-Some-Refused.field-0-is)
+    (puts_then c.put-behind-in-Some-Refused.ensures (rw c.number.ensures at c.decimals-in-Some-Refused.ensures))

@@ -3,12 +3,13 @@ use Rattle.text.specs.Ascii.{ascii}
 use Rattle.listing.proofs.Lines.{words_put}
 use Rattle.listing.proofs.event_words.Goals as goal
 
-pub returns-in-Frame : goal.returns-in-Frame
-returns-in-Frame c =
-    let m = c in
-    rw c.in-Frame.is (words_put (ascii "frame ") _ _ m.named-a.ensures c.named.ensures)
+pub returns-in-Some-Frame : goal.returns-in-Some-Frame
+returns-in-Some-Frame c =
+    let e = c.in-Some-Frame.is in
+    rw (e, rw e at c.in-Some-Frame.field-0-is) (words_put (ascii "frame ") _ _ c.named-a.ensures c.named.ensures)
 
-pub returns-in-Refused : goal.returns-in-Refused
-returns-in-Refused c =
-    let m = c in
-    rw c.in-Refused.is (words_put (ascii "refused ") _ _ m.named-a-in-Refused.ensures c.named-in-Refused.ensures)
+pub returns-in-Some-Refused : goal.returns-in-Some-Refused
+returns-in-Some-Refused c =
+    let e = c.in-Some-Refused.is in
+    rw (e, rw e at c.in-Some-Refused.field-0-is)
+    (words_put (ascii "refused ") _ _ (rw c.number.ensures at c.named-a-in-Some-Refused.ensures) c.named-in-Some-Refused.ensures)

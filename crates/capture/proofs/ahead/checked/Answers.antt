@@ -3,6 +3,7 @@ use mathlib.Core.Path.{refl, ap, ◌∙◌}
 use Prim.Native.Nat.{◌-◌}
 use borrow.Author.Rules.{rules}
 use Rattle.line.specs.Line.{emitted}
+use Rattle.wire.specs.declared.refusals.Refusal.TheVariants.{CrcDiffers}
 use Rattle.capture.specs.Looking.{refusal_at}
 use Rattle.capture.specs.declared.ahead.NextEvent.{NextEvent}
 use Rattle.capture.proofs.Frames.{crc_differs, crc_same}
@@ -14,7 +15,7 @@ returns-then-crc-read_u16 c =
     let d = b in
     let a = d.args in
     let s = a.store.now in
-    let e : NextEvent = refusal_at 4 a.offset a.behind a.behind in
+    let e : NextEvent = refusal_at CrcDiffers a.offset a.behind a.behind in
     let q = c.refused.ensures in (
       ap (λ (x : NextEvent). emitted x.event s) q
           ∙ crc_differs a.size (a.behind - a.offset) s d.requires.0 d.requires.1 (search rules) b.crc.result c.read_u16.result
