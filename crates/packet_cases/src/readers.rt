@@ -63,18 +63,14 @@ enum Read {
 }
 
 fn read_as(kind: u8, bytes: &[u8], way: &[u8]) -> Result<Read, Refusal> {
+    let mode = mode_of(way);
     match kind {
-        b'c' => Ok(Read::Command(control::read_control(
-            bytes,
-            mode_of(way),
-            access_of(way),
-        )?)),
+        b'c' => control::read_control(bytes, mode, access_of(way)).map(Read::Command),
         b'm' => {
             let required = wire::byte_at(way, 2) == b'!';
-            let m = message::read_message(bytes, form_of(way), required, mode_of(way))?;
-            Ok(Read::Message(m))
+            message::read_message(bytes, form_of(way), required, mode).map(Read::Message)
         }
-        _ => Ok(Read::Result(result::read_result(bytes)?)),
+        _ => result::read_result(bytes).map(Read::Result),
     }
 }
 
@@ -130,9 +126,9 @@ fn write(read: Read, bytes: &[u8], room: &mut [u8]) -> Result<usize, Refusal> {
 
 fn write_result(read: ResultRead, bytes: &[u8], room: &mut [u8]) -> Result<usize, Refusal> {
     match read {
-        ResultRead::Done(r) => result::write_result(r, bytes, room),
-        ResultRead::Waiting(r) => result::write_result(r, bytes, room),
-        ResultRead::Failed(r) => result::write_result(r, bytes, room),
+        ResultRead::Done(r) | ResultRead::Waiting(r) | ResultRead::Failed(r) => {
+            result::write_result(r, bytes, room)
+        }
         ResultRead::Presence(r) => result::write_presence(r, room),
         ResultRead::Uptime(r) => result::write_uptime(r, room),
     }
