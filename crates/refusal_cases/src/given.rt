@@ -1,7 +1,8 @@
 // What a case's line gives to the opener.
 use access::Mode;
 use bridge::{Context, Link};
-use session::{Connection, Key, Keys, Session};
+use console::front;
+use session::{Connection, Keys, Session};
 use text::reading;
 use units::{Minutes, Seconds};
 use wire::Part;
@@ -11,11 +12,16 @@ pub fn letter(line: &[u8], field: usize, at: usize) -> u8 {
     wire::byte_at(reading::field(line, b'|', field), at)
 }
 
+// The key that is made of a letter.
+fn key_bytes(letter: u8) -> [u8; 16] {
+    [letter, 1, 2, 3, 4, 5, 6, 7, 8, 9, 10, 11, 12, 13, 14, 15]
+}
+
 // The key of a letter, which is not held where it is -.
-fn key(letter: u8) -> Key {
-    Key {
-        held: letter != b'-',
-        bytes: [letter, 1, 2, 3, 4, 5, 6, 7, 8, 9, 10, 11, 12, 13, 14, 15],
+fn key(letter: u8) -> Option<[u8; 16]> {
+    match letter {
+        b'-' => None,
+        _ => Some(key_bytes(letter)),
     }
 }
 
@@ -29,10 +35,10 @@ fn keys(line: &[u8]) -> Keys {
 }
 
 fn mode(line: &[u8]) -> Mode {
-    if letter(line, 1, 1) == b's' {
-        return Mode::Setup;
+    match letter(line, 1, 1) {
+        b's' => Mode::Setup,
+        _ => Mode::Normal,
     }
-    Mode::Normal
 }
 
 fn nonce(s: &[u8]) -> [u8; 5] {
@@ -82,30 +88,24 @@ pub fn link(line: &[u8]) -> Link {
 
 // The bytes behind the fourth, enciphered.
 fn encipher(seal: &[u8], room: &mut [u8], len: usize) {
-    let key = key(wire::byte_at(seal, 0));
-    let secret = key.bytes;
-    let blocks = Part { start: 4, len };
     let mut body = [0u8; 512];
-    aes::apply_ctr(
-        secret,
+    // What does not fit is not enciphered.
+    let _ = aes::apply_ctr(
+        key_bytes(wire::byte_at(seal, 0)),
         [1, 2, 3],
         nonce(reading::field(seal, b' ', 1)),
-        wire::part_of(room, blocks),
+        wire::part_of(room, Part { start: 4, len }),
         &mut body,
     );
-    text::put(room, 4, wire::part_of(&body, Part { start: 0, len }));
+    text::put(room, 4, front(&body, len));
 }
 
 // The payload of a frame, or a packet: its length in a room.
 pub fn payload(line: &[u8], room: &mut [u8]) -> usize {
     let len = reading::bytes(room, 0, reading::field(line, b'|', 8));
     let seal = reading::field(line, b'|', 7);
-    if wire::byte_at(seal, 0) == b'=' {
-        return len;
+    if wire::byte_at(seal, 0) != b'=' && 4 <= len {
+        encipher(seal, room, len - 4);
     }
-    if len < 4 {
-        return len;
-    }
-    encipher(seal, room, len - 4);
     len
 }

@@ -22,32 +22,12 @@ mod answer;
 mod given;
 
 use aes::Small;
-use session::{Connection, Session};
+use console::front;
 use std::io;
 use text::reading;
-use wire::Part;
 
-// Where the text of an answer ends, and the session after it.
-#[derive(Clone, Copy)]
-struct AfterFrame {
-    end: usize,
-    session: Session,
-}
-
-#[derive(Clone, Copy)]
-struct AfterPacket {
-    end: usize,
-    connection: Connection,
-}
-
-// A frame's answer.
-fn open_frame(
-    line: &[u8],
-    payload: &[u8],
-    out: &mut [u8],
-    at: usize,
-    work: &mut [u8],
-) -> AfterFrame {
+// A frame's case: the answer, the session after it, the work buffer.
+fn frame(line: &[u8], payload: &[u8], out: &mut [u8], at: usize, work: &mut [u8]) -> usize {
     let mut head = [0u8; 3];
     reading::bytes(&mut head, 0, reading::field(line, b'|', 5));
     let opened = bridge::uart::open::<Small>(
@@ -58,49 +38,25 @@ fn open_frame(
         given::context(line),
         work,
     );
-    let answer = opened.answer;
-    let end = answer::message(out, at, answer, payload, work);
-    let session = opened.session;
-    AfterFrame { end, session }
-}
-
-// A characteristic packet's answer.
-fn open_packet(
-    line: &[u8],
-    packet: &[u8],
-    out: &mut [u8],
-    at: usize,
-    work: &mut [u8],
-) -> AfterPacket {
-    let opened = bridge::characteristic::open::<Small>(packet, given::link(line), work);
-    let answer = opened.answer;
-    let end = answer::command(out, at, answer, packet, work);
-    let connection = opened.connection;
-    AfterPacket { end, connection }
-}
-
-// A frame's case.
-fn frame(line: &[u8], payload: &[u8], out: &mut [u8], at: usize, work: &mut [u8]) -> usize {
-    let answer = open_frame(line, payload, out, at, work);
-    let session = answer.session;
-    let after = answer::session(out, answer.end, reading::field(line, b'|', 3), session);
+    let told = answer::message(out, at, opened, payload, work);
+    let after = answer::session(out, told, reading::field(line, b'|', 3), opened.session);
     answer::work(out, after, work)
 }
 
 // A characteristic packet's case.
 fn packet(line: &[u8], packet: &[u8], out: &mut [u8], at: usize, work: &mut [u8]) -> usize {
-    let answer = open_packet(line, packet, out, at, work);
-    let connection = answer.connection;
-    let after = answer::connection(out, answer.end, reading::field(line, b'|', 3), connection);
+    let opened = bridge::characteristic::open::<Small>(packet, given::link(line), work);
+    let told = answer::command(out, at, opened, packet, work);
+    let after = answer::connection(out, told, reading::field(line, b'|', 3), opened.connection);
     answer::work(out, after, work)
 }
 
 // The case by its route.
 fn routed(line: &[u8], payload: &[u8], out: &mut [u8], at: usize, work: &mut [u8]) -> usize {
-    if given::letter(line, 1, 0) == b'c' {
-        return packet(line, payload, out, at, work);
+    match given::letter(line, 1, 0) {
+        b'c' => packet(line, payload, out, at, work),
+        _ => frame(line, payload, out, at, work),
     }
-    frame(line, payload, out, at, work)
 }
 
 // The case with the last bytes of a buffer to work in: where its line ends.
@@ -111,13 +67,7 @@ fn opened(line: &[u8], out: &mut [u8], at: usize, work: &mut [u8], room: usize) 
     let from = work.len() - room;
     let mut payload = [0u8; 520];
     let len = given::payload(line, &mut payload);
-    routed(
-        line,
-        wire::part_of(&payload, Part { start: 0, len }),
-        out,
-        at,
-        &mut work[from..],
-    )
+    routed(line, front(&payload, len), out, at, &mut work[from..])
 }
 
 fn case<R: Print>(rt: &R, line: &[u8]) -> io::Result<()> {
@@ -130,18 +80,13 @@ fn case<R: Print>(rt: &R, line: &[u8]) -> io::Result<()> {
     let room = reading::number(reading::field(line, b'|', 6)) as usize;
     let told = opened(line, &mut out, label, &mut work, room);
     let len = text::put(&mut out, told, b"\n");
-    rt.write_all(wire::part_of(&out, Part { start: 0, len }))
+    rt.write_all(front(&out, len))
 }
 
+// The lines, the last also where no newline ends it.
 fn cases<R: Print>(rt: &R, s: &[u8]) -> io::Result<()> {
-    let mut at: usize = 0;
-    while at < s.len() {
-        let line = reading::field(&s[at..], b'\n', 0);
-        case(rt, line)?;
-        if s.len() - at <= line.len() {
-            return Ok(());
-        }
-        at = at + line.len() + 1;
+    for line in s.split_inclusive(|b| *b == b'\n') {
+        case(rt, line.strip_suffix(b"\n").unwrap_or(line))?;
     }
     Ok(())
 }
@@ -149,5 +94,5 @@ fn cases<R: Print>(rt: &R, s: &[u8]) -> io::Result<()> {
 fn main(rt: HostRuntime) -> io::Result<()> {
     let mut input = [0u8; 131072];
     let len = console::read_full(&rt, &mut input)?;
-    cases(&rt, wire::part_of(&input, Part { start: 0, len }))
+    cases(&rt, front(&input, len))
 }
