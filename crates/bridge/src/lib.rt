@@ -10,8 +10,10 @@ ghost use Rattle.std.specs.Prelude.{◌≡◌};
 ghost use Rattle.bridge.specs.Place.{payload_at};
 
 use access::Mode;
+pub use blocks::judge_blocks;
 use control::Command;
 use message::Message;
+pub use replies::{characteristic_refused, uart_refused};
 use session::{Connection, Keys, Session};
 use units::Seconds;
 use wire::{Part, Refusal};

@@ -2,7 +2,7 @@
 use mathlib.Core.Path.{◌≡◌, ◌∙◌, refl, sym, ap, ap₂}
 use mathlib.Core.List.{List, [], ◌∷◌, ◌++◌}
 use Prim.Native.Nat.{ℕ, zero, suc, ◌+◌, ◌*◌, ◌^◌, ◌/◌, ◌%◌, ◌≤◌, ◌<◌}
-use native.Mathlib.Nat.{pow-suc}
+use native.Mathlib.Nat.{add-zero, zero-add, suc-add, mul-add, mul_assoc, mul_left_comm, pow-suc}
 use native.Mathlib.Numerals.{add-one}
 use native.Mathlib.Omega.{arith}
 use lib.ListN.{length, get_or, take, drop, length-append}
@@ -51,3 +51,25 @@ le_num s h (suc (suc w)) at k =
 
     high : (b m : ℕ) → b < 256 → (b + 256 * m) / 256 ≡ m
     high b m h = omega arith
+
+-- the low byte, and the rest
+num_suc : (w at : ℕ) (s : List ℕ) → num (suc w) at s ≡ get_or s at 0 + 256 * num w (at + 1) s
+num_suc zero at s = omega arith
+num_suc (suc w) at s = refl
+
+-- a number is its low v bytes and the w behind them
+pub num_split : (v w at : ℕ) (s : List ℕ) → num (v + w) at s ≡ num v at s + 256 ^ v * num w (at + v) s
+num_split zero w at s = rw (zero-add w, add-zero at) (omega arith)
+num_split (suc v) w at s =
+    let e : at + suc v ≡ at + 1 + v = omega arith in
+    rw (
+      suc-add v w,
+      num_suc (v + w) at s,
+      num_suc v at s,
+      num_split v w (at + 1) s,
+      e,
+      pow-suc 256 v,
+      mul_assoc (256 ^ v) 256 (num w (at + 1 + v) s),
+      mul_left_comm (256 ^ v) 256 (num w (at + 1 + v) s),
+      mul-add 256 (num v (at + 1) s) (256 ^ v * num w (at + 1 + v) s),
+    ) (omega arith)
