@@ -11,22 +11,16 @@ mod phone;
 
 use access::Mode;
 use aes::Small;
-use session::{Connection, Key, Keys};
+use console::front;
+use session::{Connection, Keys};
 use std::io;
 use text::reading;
-use wire::{Part, Written};
+use wire::Refusal;
 
 // Its bytes ask for escapes.
 const FIRST: [u8; 5] = [0x7E, 0x5C, 1, 2, 3];
 
 const SECOND: [u8; 5] = [0xA1, 0xA2, 0xA3, 0xA4, 0xA5];
-
-fn main(rt: HostRuntime) -> io::Result<()> {
-    let mut buffer = [0u8; 4096];
-    let n = console::read_full(&rt, &mut buffer)?;
-    items(&rt, &buffer[..n])?;
-    rt.write_all(b"end\n")
-}
 
 // Where the line ends, and the phone's connection session.
 #[derive(Clone, Copy)]
@@ -35,40 +29,32 @@ struct After {
     connection: Connection,
 }
 
-fn items<R: Print>(rt: &R, s: &[u8]) -> io::Result<()> {
+fn main(rt: HostRuntime) -> io::Result<()> {
     let mut line = [0u8; 8192];
     let mut after = After {
         at: 0,
         connection: phone::connection(),
     };
-    let n = reading::count(s, b'\n');
-    let mut k: usize = 0;
-    while k < n {
-        let next = item(rt, &mut line, after, reading::field(s, b'\n', k))?;
-        after = next;
-        k += 1;
-    }
-    Ok(())
+    console::for_each_line(&rt, &mut [0u8; 4096], |s| {
+        after = item(&rt, &mut line, after, s)?;
+        Ok(())
+    })?;
+    rt.write_all(b"end\n")
 }
 
 fn item<R: Print>(rt: &R, line: &mut [u8], before: After, s: &[u8]) -> io::Result<After> {
     let mut room = [0u8; 512];
     let n = reading::bytes(&mut room, 0, reading::field(s, b'|', 3));
-    let bytes = wire::part_of(&room, Part { start: 0, len: n });
+    let bytes = front(&room, n);
     let v = reading::field(s, b'|', 2);
     let kind = wire::byte_at(reading::field(s, b'|', 1), 0);
-    let connection = before.connection;
+    let mut after = before;
     if kind == b'c' {
-        let next = phone::packet(rt, v, bytes, connection)?;
-        return Ok(After {
-            at: before.at,
-            connection: next,
-        });
+        after.connection = phone::packet(rt, v, bytes, before.connection)?;
+    } else {
+        after.at = on_line(rt, line, before.at, kind, v, bytes)?;
     }
-    Ok(After {
-        at: on_line(rt, line, before.at, kind, v, bytes)?,
-        connection,
-    })
+    Ok(after)
 }
 
 // What an item puts on the line from a place on; the place behind it.
@@ -85,7 +71,7 @@ fn on_line<R: Print>(
         b'p' => framed(rt, line, at, 0, bytes),
         b's' => sealed(rt, line, at, v, bytes),
         b'r' => {
-            opening::receive(rt, wire::part_of(line, Part { start: 0, len: at }))?;
+            opening::receive(rt, front(line, at))?;
             Ok(at)
         }
         _ => Ok(at),
@@ -98,9 +84,9 @@ fn nonce(v: &[u8]) -> [u8; 3] {
 }
 
 // What a writer refuses is printed, and leaves the line as it is.
-fn refused<R: Print>(rt: &R, at: usize, n: u8) -> io::Result<usize> {
+fn refused<R: Print>(rt: &R, at: usize, refusal: Refusal) -> io::Result<usize> {
     let mut out = [0u8; 64];
-    let end = text::named(&mut out, 0, b"writer refused ", n as u64);
+    let end = text::named(&mut out, 0, b"writer refused ", refusal.number() as u64);
     opening::end_line(rt, &mut out, end)?;
     Ok(at)
 }
@@ -114,34 +100,24 @@ fn framed<R: Print>(
 ) -> io::Result<usize> {
     let mut room = [0u8; 1100];
     match frame::write_frame(wrapper, payload, &mut room) {
-        Written::Wrote(n) => Ok(text::put(
-            line,
-            at,
-            wire::part_of(&room, Part { start: 0, len: n }),
-        )),
-        Written::Refused(n) => refused(rt, at, n),
+        Ok(n) => Ok(text::put(line, at, front(&room, n))),
+        Err(refusal) => refused(rt, at, refusal),
     }
 }
 
 // The admin key alone is held.
 fn keys() -> Keys {
     Keys {
-        admin: Key {
-            held: true,
-            bytes: *b"\x10\x11\x12\x13\x14\x15\x16\x17\x18\x19\x1a\x1b\x1c\x1d\x1e\x1f",
-        },
-        member: Key::none(),
-        basic: Key::none(),
-        setup: Key::none(),
+        admin: Some(*b"\x10\x11\x12\x13\x14\x15\x16\x17\x18\x19\x1a\x1b\x1c\x1d\x1e\x1f"),
+        member: None,
+        basic: None,
+        setup: None,
     }
 }
 
 // The nonces of two sessions.
 fn session_of(number: u64) -> [u8; 5] {
-    if number == 1 {
-        return FIRST;
-    }
-    SECOND
+    if number == 1 { FIRST } else { SECOND }
 }
 
 fn sealed<R: Print>(
@@ -155,13 +131,7 @@ fn sealed<R: Print>(
     let nonce = nonce(reading::field(v, b' ', 1));
     let mut room = [0u8; 512];
     match envelope::seal::<Small>(keys(), Mode::Normal, nonce, session, message, &mut room) {
-        Written::Wrote(n) => framed(
-            rt,
-            line,
-            at,
-            128,
-            wire::part_of(&room, Part { start: 0, len: n }),
-        ),
-        Written::Refused(n) => refused(rt, at, n),
+        Ok(n) => framed(rt, line, at, 128, front(&room, n)),
+        Err(refusal) => refused(rt, at, refusal),
     }
 }

@@ -1,16 +1,17 @@
 // Control packets as a phone sends them: sealed with a level's key, and opened. Numbers: the level, the mode n or s, the packet nonce's number.
-use access::{Level, LevelRead, Mode};
+use access::{Level, Mode};
 use aes::Small;
-use bridge::{CommandAnswer, Link};
-use session::{Connection, Key, Keys, NonceMemory};
+use bridge::{Link, OpenedCommand};
+use console::front;
+use session::{Connection, Keys, NonceMemory};
 use std::io;
 use text::reading;
-use wire::{Part, Written};
+use wire::Refusal;
 
-fn key(first: u8) -> Key {
+fn key(first: u8) -> Option<[u8; 16]> {
     let mut bytes = [0x5Cu8; 16];
     bytes[0] = first;
-    Key { held: true, bytes }
+    Some(bytes)
 }
 
 fn keys() -> Keys {
@@ -33,10 +34,10 @@ pub fn connection() -> Connection {
 }
 
 fn mode_of(letter: u8) -> Mode {
-    if letter == b's' {
-        return Mode::Setup;
+    match letter {
+        b's' => Mode::Setup,
+        _ => Mode::Normal,
     }
-    Mode::Normal
 }
 
 // Where the text of an answer ends, and the connection session after it.
@@ -59,8 +60,7 @@ pub fn packet<R: Print>(
     let b = text::put(&mut out, a, b": ");
     let answered = answer(&mut out, b, number, v, bytes, connection);
     crate::opening::end_line(rt, &mut out, answered.end)?;
-    let after = answered.connection;
-    Ok(after)
+    Ok(answered.connection)
 }
 
 fn answer(
@@ -72,8 +72,8 @@ fn answer(
     connection: Connection,
 ) -> Answered {
     match access::level_of(number) {
-        LevelRead::Known(level) => sealed(out, at, level, v, bytes, connection),
-        LevelRead::Unknown => Answered {
+        Some(level) => sealed(out, at, level, v, bytes, connection),
+        None => Answered {
             end: text::put(out, at, b"unknown"),
             connection,
         },
@@ -92,15 +92,9 @@ fn sealed(
     let nonce = crate::nonce(reading::field(v, b' ', 2));
     let mut room = [0u8; 512];
     match seal(connection, level, mode, nonce, bytes, &mut room) {
-        Written::Wrote(n) => open(
-            out,
-            at,
-            wire::part_of(&room, Part { start: 0, len: n }),
-            connection,
-            mode,
-        ),
-        Written::Refused(n) => Answered {
-            end: text::named(out, at, b"sealer refused ", n as u64),
+        Ok(n) => open(out, at, front(&room, n), connection, mode),
+        Err(refusal) => Answered {
+            end: text::named(out, at, b"sealer refused ", refusal.number() as u64),
             connection,
         },
     }
@@ -113,16 +107,14 @@ fn seal(
     nonce: [u8; 3],
     bytes: &[u8],
     room: &mut [u8],
-) -> Written {
-    let session = connection.nonce;
-    let validation = connection.validation;
+) -> Result<usize, Refusal> {
     envelope::seal_characteristic::<Small>(
         keys(),
         mode,
         level,
         nonce,
-        session,
-        validation,
+        connection.nonce,
+        connection.validation,
         bytes,
         room,
     )
@@ -136,28 +128,19 @@ fn open(out: &mut [u8], at: usize, packet: &[u8], connection: Connection, mode: 
         mode,
     };
     let opened = bridge::characteristic::open::<Small>(packet, link, &mut work);
-    let answer = opened.answer;
-    let end = show(out, at, answer, packet, &work);
-    let after = opened.connection;
     Answered {
-        end,
-        connection: after,
+        end: show(out, at, opened, packet, &work),
+        connection: opened.connection,
     }
 }
 
-fn show<'a>(
-    out: &mut [u8],
-    at: usize,
-    answer: CommandAnswer,
-    packet: &'a [u8],
-    work: &'a [u8],
-) -> usize {
-    match answer {
-        CommandAnswer::Accepted(c, place) => {
+fn show(out: &mut [u8], at: usize, opened: OpenedCommand, packet: &[u8], work: &[u8]) -> usize {
+    match opened.answer {
+        Ok((c, place)) => {
             let a = text::put(out, at, b"accepted");
             let b = content_text::command(out, a, c);
             crate::opening::contents(out, b, place, packet, work)
         }
-        CommandAnswer::Refused(r) => crate::opening::refused(out, at, r),
+        Err(r) => crate::opening::refused(out, at, r),
     }
 }
