@@ -9,9 +9,8 @@ use lib.ListN.{length, get_or, take, drop, set, length-set, length-append, lengt
 use lib.Seq.{sets, set_out, take-nil, get_or-drop}
 use borrow.Author.Tests.{le-ltb}
 use Rattle.wire.specs.Writing.{Stores, no_room}
-use Rattle.std.specs.Prelude.{Result}
+use Rattle.std.specs.Prelude.{Result, Ok}
 use Rattle.wire.specs.declared.refusals.Refusal.{Refusal}
-use Rattle.std.specs.Prelude.{Ok}
 use Rattle.wire.proofs.Xor.{xor_twice}
 use Rattle.wire.proofs.Lists.{sets_then, copy_more}
 use Rattle.aes.specs.Field.{◌⊕◌}

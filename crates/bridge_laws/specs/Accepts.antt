@@ -17,8 +17,7 @@ use Rattle.bridge.specs.Opener.{admin_key, uart_text}
 use Rattle.bridge.specs.Characteristic.{access_for, packet_text}
 use Rattle.bridge.specs.declared.Context.{Context}
 use Rattle.bridge.specs.declared.Link.{Link}
-use Rattle.bridge.specs.Content.{Answer}
-use Rattle.bridge.specs.Content.{CommandAnswer}
+use Rattle.bridge.specs.Content.{Answer, CommandAnswer}
 
 abbrev pub is_accepted : Answer → Bool
 is_accepted (Ok a) = true

@@ -5,10 +5,9 @@ use Rattle.wire.specs.Content.{accepted}
 use Rattle.control.specs.Control.{command_at, control_content}
 use Rattle.envelope.specs.Blocks.{blocks_in}
 use Rattle.multipart.specs.Cutting.{parts}
-use Rattle.multipart.specs.Assembler.{message_of}
+use Rattle.multipart.specs.Assembler.{message_of, more}
 use Rattle.multipart.specs.Delivery.{after, Delivers}
 use Rattle.multipart.specs.declared.Assembler.{Assembler}
-use Rattle.multipart.specs.Assembler.{more}
 use Rattle.bridge.specs.Place.{place_from}
 use Rattle.bridge.specs.Content.{command_answer_content}
 use Rattle.bridge.specs.Characteristic.{OpensPacket}

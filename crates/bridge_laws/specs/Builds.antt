@@ -1,7 +1,6 @@
 -- Document 02 §9: "both builds tell their callers the same". What an opener or a sealer promises leaves it no choice: two functions that keep the promise, given
 -- the same, answer the same and leave the same bytes. The statement, `ToldTheSame`; proofs/Builds.antt proves it.
-use Rattle.std.specs.Prelude.{ℕ, ◌≡◌, Bool, List, Option}
-use Rattle.std.specs.Prelude.{Result}
+use Rattle.std.specs.Prelude.{ℕ, ◌≡◌, Bool, List, Option, Result}
 use Rattle.wire.specs.declared.refusals.Refusal.{Refusal}
 use Rattle.envelope.specs.Blocks.{Seals}
 use Rattle.bridge.specs.Opener.{OpensFrame}

@@ -1,12 +1,11 @@
 -- Document 02 §3: the connection session that is read from session data opens what was sealed with its session nonce and its validation key.
 -- The statement; proofs/Connected.antt proves it, for every level.
-use Rattle.std.specs.Prelude.{ℕ, ◌≤◌, ◌≡◌, true, false, List, length, is_some}
+use Rattle.std.specs.Prelude.{ℕ, ◌≤◌, ◌≡◌, true, false, List, length, is_some, Ok}
 use Rattle.aes.specs.Inverse.{SixteenBytes}
 use Rattle.access.specs.Level.{level_number}
 use Rattle.access.specs.declared.Access.TheVariants.{Keyed}
 use Rattle.access.specs.declared.Level.{Level}
 use Rattle.control.specs.Control.{command_at, read_control}
-use Rattle.std.specs.Prelude.{Ok}
 use Rattle.session.specs.Keys.{key_for, key_bytes}
 use Rattle.session.specs.Session.{with_data}
 use Rattle.envelope.specs.Blocks.{used_again}

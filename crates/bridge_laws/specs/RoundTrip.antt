@@ -1,10 +1,8 @@
 -- What the sealer of characteristic packets writes of a packet that its reader accepts, the opener accepts as that command with those bytes.
 -- The statement; proofs/RoundTrip.antt proves it, for every level.
-use Rattle.std.specs.Prelude.{ℕ, ◌+◌, ◌*◌, ◌≤◌, ◌≡◌, true, false, List, length, take, is_some}
+use Rattle.std.specs.Prelude.{ℕ, ◌+◌, ◌*◌, ◌≤◌, ◌≡◌, true, false, List, length, take, is_some, Result, Ok}
 use Rattle.wire.specs.Content.{accepted}
-use Rattle.std.specs.Prelude.{Result}
 use Rattle.wire.specs.declared.refusals.Refusal.{Refusal}
-use Rattle.std.specs.Prelude.{Ok}
 use Rattle.access.specs.Level.{level_number}
 use Rattle.access.specs.declared.Access.TheVariants.{Keyed}
 use Rattle.access.specs.declared.Level.{Level}

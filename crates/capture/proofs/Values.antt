@@ -12,8 +12,7 @@ use Rattle.std.specs.Prelude.{Some, None}
 use Rattle.wire.specs.Choice.{pick}
 use Rattle.wire.specs.declared.refusals.Refusal.TheVariants.{BadFrameSize}
 use Rattle.wire.specs.Numbers.{num}
-use Rattle.line.specs.Receive.{within, busy, idle, reading, holding, step_to, refused_step, taken, stored, finished, step_of}
-use Rattle.line.specs.Receive.{sized as sizedStep}
+use Rattle.line.specs.Receive.{within, busy, idle, reading, holding, step_to, refused_step, taken, stored, finished, step_of, sized as sizedStep}
 use Rattle.line.specs.Feed.{CountBounded}
 use Rattle.line.specs.Line.{Emitted, refusal, emitted}
 use Rattle.line.proofs.Gives.{finished_gives, step_gives}

@@ -28,9 +28,8 @@ use Rattle.control.specs.Control.{control_rules, command_of, command_at, read_co
 use Rattle.control.specs.Accepts.{CommandHolds}
 use Rattle.control.proofs.Reading.{control_accepts}
 use Rattle.control.specs.declared.Command.{Command}
-use Rattle.std.specs.Prelude.{Result}
+use Rattle.std.specs.Prelude.{Result, Ok}
 use Rattle.wire.specs.declared.refusals.Refusal.{Refusal}
-use Rattle.std.specs.Prelude.{Ok}
 
 -- nothing stands behind a payload of exactly so many bytes
 pub none_behind : (q : List ℕ) (k : ℕ) → not (eqb (length q) k) ≡ false → [] ≡ drop k q

@@ -14,11 +14,10 @@ use Rattle.access.specs.declared.Access.{Access}
 use Rattle.control.specs.Table.{Row, row_of}
 use Rattle.control.specs.Control.{length_rules, command_rules, control_rules, row_rules, mark_rules, payload_rules, command_of, command_at, read_control, read_command, read_row, read_payload}
 use Rattle.control.specs.Accepts.{Permits, Accepts}
-use Rattle.std.specs.Prelude.{Result}
+use Rattle.std.specs.Prelude.{Result, Ok}
 use Rattle.wire.specs.declared.refusals.Refusal.{Refusal}
 use Rattle.control.specs.declared.Command.{Command}
 use Rattle.wire.specs.Refusals.{refusing}
-use Rattle.std.specs.Prelude.{Ok}
 
 -- a listed command: its marks, then its payload
 pub row_read : (r : Row) (q : List ℕ) (m : Mode) (a : Access) {read answer : Result Command Refusal} → r.listed ≡ true → read ≡ read_payload r q

@@ -16,9 +16,8 @@ use Rattle.wire.specs.Rules.{first_broken, verdict}
 use Rattle.wire.specs.Parts.{part_of}
 use Rattle.wire.specs.Fields.{tail_parts, content_by, each_part, past, any_past, same_lengths, unreadable}
 use Rattle.wire.specs.Writing.{Writes}
-use Rattle.std.specs.Prelude.{Result}
+use Rattle.std.specs.Prelude.{Result, Ok}
 use Rattle.wire.specs.declared.refusals.Refusal.{Refusal}
-use Rattle.std.specs.Prelude.{Ok}
 use Rattle.wire.proofs.Choice.{and_holds, or_fails}
 use Rattle.wire.proofs.Content.{same_content}
 use Rattle.wire.proofs.Held.{held}

@@ -1,9 +1,8 @@
 -- What a writer of control packets writes, and what it refuses.
-use Rattle.std.specs.Prelude.{ℕ, Bool, ◌||◌, List, ◌∷◌, ◌++◌, length, ltb}
+use Rattle.std.specs.Prelude.{ℕ, Bool, ◌||◌, List, ◌∷◌, ◌++◌, length, ltb, Result}
 use Rattle.wire.specs.Numbers.{le}
 use Rattle.wire.specs.Fields.{body_of, unreadable}
 use Rattle.wire.specs.Writing.{Writes}
-use Rattle.std.specs.Prelude.{Result}
 use Rattle.wire.specs.declared.refusals.Refusal.{Refusal}
 use Rattle.control.specs.Command.{command_number, command_values, command_parts}
 use Rattle.control.specs.Table.{Row, row_of}

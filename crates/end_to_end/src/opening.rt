@@ -109,10 +109,9 @@ fn answer(out: &mut [u8], opened: Opened, payload: &[u8], work: &[u8]) -> usize 
 
 // Where the payload came from, and its bytes.
 pub fn contents(out: &mut [u8], at: usize, place: Place, frame: &[u8], work: &[u8]) -> usize {
-    let a = if place.in_work {
-        text::put(out, at, b"; deciphered [")
-    } else {
-        text::put(out, at, b"; plain [")
+    let a = match place {
+        Place::Work(_) => text::put(out, at, b"; deciphered ["),
+        Place::Frame(_) => text::put(out, at, b"; plain ["),
     };
     let b = text::hex(out, a, bridge::payload(frame, work, place));
     text::put(out, b, b"]")

@@ -15,12 +15,11 @@ use Rattle.text.specs.Puts.{Puts}
 use Rattle.text.proofs.Digits.{decimal_length}
 use Rattle.text.proofs.Puts.{puts_none, puts_then, puts_same, puts_length}
 use Rattle.line.specs.Line.{Emitted, refusal, frame, emitted, run, after}
-use Rattle.line.specs.Feed.{Feeds}
+use Rattle.line.specs.Feed.{Feeds, Fed}
 use Rattle.line.proofs.Run.{run_append, after_append}
 use Rattle.line.proofs.Feeding.{feeds_after, feeds_forward}
 use Rattle.listing.specs.Listing.{words, words_line, frame_line, refused_line, event_words, event_text, lines_of, between, Lists}
 use Rattle.line.specs.declared.Receiver.{Receiver}
-use Rattle.line.specs.Feed.{Fed}
 use Rattle.line.specs.declared.Event.{Event}
 use Rattle.line.specs.declared.Event.TheVariants.{Frame, Refused}
 

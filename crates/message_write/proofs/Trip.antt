@@ -11,9 +11,8 @@ use Rattle.wire.specs.Numbers.{num, le}
 use Rattle.wire.specs.Rules.{first_broken, verdict}
 use Rattle.wire.specs.Fields.{Layout, tail_parts, each_part, body_of}
 use Rattle.wire.specs.Writing.{Writes}
-use Rattle.std.specs.Prelude.{Result}
+use Rattle.std.specs.Prelude.{Result, Ok}
 use Rattle.wire.specs.declared.refusals.Refusal.{Refusal}
-use Rattle.std.specs.Prelude.{Ok}
 use Rattle.wire.proofs.Choice.{or_fails}
 use Rattle.wire.proofs.Content.{same_content}
 use Rattle.wire.proofs.Fields.{readable}

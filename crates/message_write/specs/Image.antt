@@ -1,9 +1,8 @@
 -- What a writer of UART messages writes, and what it refuses.
-use Rattle.std.specs.Prelude.{ℕ, Bool, true, ◌||◌, List, [], ◌++◌, length, ltb}
+use Rattle.std.specs.Prelude.{ℕ, Bool, true, ◌||◌, List, [], ◌++◌, length, ltb, Result}
 use Rattle.wire.specs.Numbers.{le}
 use Rattle.wire.specs.Fields.{body_of, unreadable}
 use Rattle.wire.specs.Writing.{Writes}
-use Rattle.std.specs.Prelude.{Result}
 use Rattle.wire.specs.declared.refusals.Refusal.{Refusal}
 use Rattle.control.specs.declared.Command.{Command}
 use Rattle.control_write.specs.Image.{control_image, command_bad}

@@ -1,5 +1,5 @@
 -- Reading what was written gives the message back: the statement; proofs/Trip.antt proves it.
-use Rattle.std.specs.Prelude.{ℕ, ◌≡◌, Bool, List, [], ◌++◌, drop}
+use Rattle.std.specs.Prelude.{ℕ, ◌≡◌, Bool, List, [], ◌++◌, drop, Ok}
 use Rattle.wire.specs.Rules.{Rule}
 use Rattle.access.specs.declared.Mode.{Mode}
 use Rattle.control.specs.Control.{mark_rules}
@@ -9,7 +9,6 @@ use Rattle.message.specs.Table.{type_of, access_of}
 use Rattle.message.specs.Reading.{form_rules, message_at, read_message}
 use Rattle.message.specs.declared.Form.{Form}
 use Rattle.message.specs.declared.Message.{Message}
-use Rattle.std.specs.Prelude.{Ok}
 use Rattle.message_write.specs.Image.{if_control}
 
 -- what the writer does not judge: 15 and 16, and a command's 21 and 22

@@ -10,9 +10,8 @@ use lib.Dec.{eqb, ltb}
 use borrow.Author.Tests.{ltb-false}
 use Rattle.wire.specs.Rules.{first_broken}
 use Rattle.wire.specs.Writing.{Stores}
-use Rattle.std.specs.Prelude.{Result}
+use Rattle.std.specs.Prelude.{Result, Ok}
 use Rattle.wire.specs.declared.refusals.Refusal.{Refusal}
-use Rattle.std.specs.Prelude.{Ok}
 use Rattle.wire.proofs.Choice.{or_fails}
 use Rattle.wire.proofs.Held.{held}
 use Rattle.wire.proofs.Lists.{nil_of}

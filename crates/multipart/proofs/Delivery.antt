@@ -14,12 +14,10 @@ use Rattle.wire.proofs.Choice.{pick_all, and_holds, or_fails, true_false}
 use Rattle.wire.proofs.Lists.{part_in}
 use Rattle.multipart.specs.Cutting.{parts_from, parts, Cuts, cut_after, pieces_before, pieces, cut_image}
 use Rattle.multipart.proofs.Cutting.{pieces_length, image_apart, cutter_cuts}
-use Rattle.multipart.specs.Assembler.{gathered, fresh_progress, fresh_assembler, holding, outside, limited, step_to, in_turn, out_of_turn, over_long, kept, counted, step_of, message_of}
+use Rattle.multipart.specs.Assembler.{gathered, fresh_progress, fresh_assembler, holding, outside, limited, step_to, in_turn, out_of_turn, over_long, kept, counted, step_of, message_of, PartAnswer, more, message_given}
 use Rattle.multipart.specs.Delivery.{answers_to, after, handed, handed_out, ready, Gives, Delivers, Assembles, CutAssembles, BehindLast, Recovers, Discards, AssemblesAll, SameMessages}
 use Rattle.multipart.specs.declared.Progress.{Progress}
 use Rattle.multipart.specs.declared.Assembler.{Assembler}
-use Rattle.multipart.specs.Assembler.{PartAnswer}
-use Rattle.multipart.specs.Assembler.{more, message_given}
 use Rattle.wire.specs.Refusals.{refusing}
 use Rattle.multipart.specs.declared.Step.{Step}
 

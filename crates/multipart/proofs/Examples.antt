@@ -3,9 +3,8 @@ use mathlib.Core.Path.{◌≡◌, refl}
 use mathlib.Core.List.{[], ◌∷◌, flatten}
 use Rattle.wire.specs.Parts.{part_of}
 use Rattle.multipart.specs.Cutting.{parts_from, parts, cut_after, cut_image}
-use Rattle.multipart.specs.Assembler.{fresh_assembler, outside, limited, in_turn, out_of_turn, over_long, kept, counted, step_of}
+use Rattle.multipart.specs.Assembler.{fresh_assembler, outside, limited, in_turn, out_of_turn, over_long, kept, counted, step_of, more, message_given}
 use Rattle.multipart.specs.Delivery.{answers_to, handed_out}
-use Rattle.multipart.specs.Assembler.{more, message_given}
 use Rattle.wire.specs.Refusals.{refusing}
 
 -- ---- cutting

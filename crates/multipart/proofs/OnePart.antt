@@ -14,9 +14,8 @@ use Rattle.wire.specs.Writing.{Stores, no_room, placed}
 use Rattle.std.specs.Prelude.{Result}
 use Rattle.wire.specs.declared.refusals.Refusal.{Refusal}
 use Rattle.wire.proofs.Choice.{pick_all, and_holds, or_fails}
-use Rattle.multipart.specs.Assembler.{fresh_progress, holding, outside, limited, step_to, in_turn, out_of_turn, over_long, kept, counted, step_of, part_rules, length_given, answer_number, TakesPart}
+use Rattle.multipart.specs.Assembler.{fresh_progress, holding, outside, limited, step_to, in_turn, out_of_turn, over_long, kept, counted, step_of, part_rules, length_given, answer_number, TakesPart, PartAnswer}
 use Rattle.multipart.specs.declared.Assembler.{Assembler}
-use Rattle.multipart.specs.Assembler.{PartAnswer}
 use Rattle.multipart.specs.declared.Step.{Step}
 use Rattle.multipart.specs.declared.Progress.{Progress}
 

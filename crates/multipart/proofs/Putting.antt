@@ -11,9 +11,8 @@ use lib.Seq.{sets, drop-drop, length-take-le, take_all}
 use lib.Dec.{eqb, ltb}
 use borrow.Author.Tests.{le-ltb, lt-ltb, eq-eqb, ne_eqb}
 use Rattle.wire.specs.Writing.{Stores, no_room}
-use Rattle.std.specs.Prelude.{Result}
+use Rattle.std.specs.Prelude.{Result, Ok}
 use Rattle.wire.specs.declared.refusals.Refusal.{Refusal}
-use Rattle.std.specs.Prelude.{Ok}
 use Rattle.wire.specs.Refusals.{refusing}
 use Rattle.wire.proofs.Lists.{sets_then}
 use Rattle.wire.proofs.Writing.{stores_sets, stores_refused, stores_past, stores_short, stores_made}

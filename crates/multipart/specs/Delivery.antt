@@ -1,17 +1,14 @@
 -- What is proved of many parts: any cutting by the rules comes through. The statements; proofs/Delivery.antt proves them.
-use Rattle.std.specs.Prelude.{ℕ, ◌+◌, ◌-◌, ◌≡◌, Bool, true, false, not, ◌&&◌, ◌||◌, length, take, replicate, eqb, leb, Some, None, Ok, Err}
+use Rattle.std.specs.Prelude.{ℕ, ◌+◌, ◌-◌, ◌≡◌, Bool, true, false, not, ◌&&◌, ◌||◌, length, take, replicate, eqb, leb, Some, None, Ok, Err, Result}
 use mathlib.Core.List.{List, [], ◌∷◌, ◌++◌, flatten, map}
 use Rattle.wire.specs.Choice.{pick}
 use Rattle.wire.specs.Rules.{first_broken}
 use Rattle.wire.specs.Writing.{Stores, placed}
-use Rattle.std.specs.Prelude.{Result}
 use Rattle.wire.specs.declared.refusals.Refusal.{Refusal}
 use Rattle.multipart.specs.Cutting.{parts, Cuts, cut_after, pieces_before, cut_image, cutter_rules}
-use Rattle.multipart.specs.Assembler.{fresh_progress, holding, outside, step_of, message_of}
+use Rattle.multipart.specs.Assembler.{fresh_progress, holding, outside, step_of, message_of, PartAnswer, more, message_given}
 use Rattle.multipart.specs.declared.Progress.{Progress}
 use Rattle.multipart.specs.declared.Assembler.{Assembler}
-use Rattle.multipart.specs.Assembler.{PartAnswer}
-use Rattle.multipart.specs.Assembler.{more, message_given}
 use Rattle.wire.specs.Refusals.{refusing}
 
 -- ---- parts one after the other, each finding the assembler as the last left it

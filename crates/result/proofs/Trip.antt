@@ -12,9 +12,8 @@ use Rattle.wire.specs.Content.{accepted, content}
 use Rattle.wire.specs.Parts.{part, part_of}
 use Rattle.wire.specs.Fields.{wrong_size, past, body_of, unreadable}
 use Rattle.wire.specs.Writing.{Writes}
-use Rattle.std.specs.Prelude.{Result}
+use Rattle.std.specs.Prelude.{Result, Ok}
 use Rattle.wire.specs.declared.refusals.Refusal.{Refusal}
-use Rattle.std.specs.Prelude.{Ok}
 use Rattle.wire.proofs.Choice.{or_fails}
 use Rattle.wire.proofs.Fields.{Readable, readable, part_length, part_end}
 use Rattle.wire.proofs.Writers.{wrote_back}

@@ -1,12 +1,10 @@
 -- The list of demand 3: messages in their forms, which of them are permitted, the line that they make, and the openings.
-use Rattle.std.specs.Prelude.{ℕ, suc, ◌*◌, ◌≤◌, ◌≡◌, true, false, List, [], ◌∷◌, length, take, is_some}
+use Rattle.std.specs.Prelude.{ℕ, suc, ◌*◌, ◌≤◌, ◌≡◌, true, false, List, [], ◌∷◌, length, take, is_some, Result, Ok}
 use Rattle.wire.specs.Numbers.{num}
 use Rattle.wire.specs.Rules.{first_broken, among}
 use Rattle.wire.specs.Content.{accepted}
 use Rattle.wire.specs.Writing.{Writes}
-use Rattle.std.specs.Prelude.{Result}
 use Rattle.wire.specs.declared.refusals.Refusal.{Refusal}
-use Rattle.std.specs.Prelude.{Ok}
 use Rattle.frame.specs.Image.{image}
 use Rattle.frame.specs.Writer.{bad_frame}
 use Rattle.line.specs.Line as line
@@ -20,10 +18,9 @@ use Rattle.session.specs.declared.Session.{Session}
 use Rattle.units.specs.declared.Seconds.{Seconds}
 use Rattle.envelope.specs.Blocks.{outside, Seals, blocks_in, nonce_number}
 use Rattle.envelope.specs.Sealed.{sealed_image}
-use Rattle.bridge.specs.Content.{answer_content}
+use Rattle.bridge.specs.Content.{answer_content, Answer}
 use Rattle.bridge.specs.Opener.{admin_key, opened, work_after}
 use Rattle.bridge.specs.declared.Context.{Context}
-use Rattle.bridge.specs.Content.{Answer}
 use Rattle.session.specs.Keys.{key_bytes}
 
 -- ---- the list

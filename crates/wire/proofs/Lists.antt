@@ -6,10 +6,9 @@ use native.Mathlib.Nat.{add-zero}
 use native.Mathlib.Numerals.{add-one}
 use native.Mathlib.Omega.{arith}
 use Rattle.std.proofs.lemmas.List.{get_or-set_same, get_or-set_other}
-use Rattle.std.proofs.Common.{below_more}
+use Rattle.std.proofs.Common.{below_more, Option, Some, None, Bor, inl, inr, unwrap_or}
 use lib.ListN.{length, get_or, take, drop, set, length-append, length-drop, drop_of_length-le}
 use lib.Seq.{sets, sets-eq, take_all, take-suc, length-take-le}
-use Rattle.std.proofs.Common.{Option, Some, None, Bor, inl, inr, unwrap_or}
 use Rattle.std.specs.Slice.{IsGetRangeResult}
 use Rattle.std.specs.List.{slice_range}
 use borrow.Rule.Slice.PartMut.{post_of, Post-is}

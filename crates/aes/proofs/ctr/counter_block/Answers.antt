@@ -1,7 +1,6 @@
 -- `aes::ctr::counter_block` meets its contract. Assumes nothing.
-use Rattle.std.proofs.Common.{◌≡◌, ℕ, List, ◌∷◌, [], sym, ap, ◌∙◌, arith, rules}
+use Rattle.std.proofs.Common.{◌≡◌, ℕ, List, ◌∷◌, [], sym, ap, ◌∙◌, arith, rules, w64}
 use Rattle.std.specs.Int.{to_be_bytes}
-use Rattle.std.proofs.Common.{w64}
 use lib.ListN.{get_or}
 use Rattle.aes.specs.Ctr.{high_first}
 use Rattle.aes.proofs.KeyStream.{counter_is}

@@ -3,8 +3,7 @@ use Rattle.std.specs.Prelude.{Ok}
 use Rattle.std.proofs.lemmas.Result.{err_from_is_err_and}
 use Rattle.wire.proofs.Listed.{checked_err, checked_then}
 use Rattle.session.specs.Keys.{key_bytes}
-use Rattle.bridge.specs.Opener.{block_rules}
-use Rattle.bridge.specs.Opener.{admin_key, session_rules, uart_entry_rules}
+use Rattle.bridge.specs.Opener.{block_rules, admin_key, session_rules, uart_entry_rules}
 use Rattle.bridge.proofs.uart.admitted.Goals as goal
 
 pub returns-in_err-judge_blocks : goal.returns-in_err-judge_blocks
