@@ -7,6 +7,7 @@ use line::{Event, Progress, Receiver};
 use session::Session;
 use std::io;
 use units::Seconds;
+use wire::Refusal;
 
 // A receiver inside a frame of size 40 of which five bytes have come, its store full of other bytes.
 fn caught() -> Receiver {
@@ -29,7 +30,9 @@ pub fn receive<R: Print>(rt: &R, line: &[u8]) -> io::Result<()> {
     for b in line {
         let step = receiver.step(*b);
         receiver = step.receiver;
-        session = handle(rt, step.event, &receiver.store, session)?;
+        if let Some(event) = step.event {
+            session = handle(rt, event, &receiver.store, session)?;
+        }
     }
     Ok(())
 }
@@ -42,7 +45,6 @@ fn handle<R: Print>(
     session: Session,
 ) -> io::Result<Session> {
     match event {
-        Event::Nothing => Ok(session),
         Event::Frame {
             major,
             minor,
@@ -52,8 +54,8 @@ fn handle<R: Print>(
             let payload = line::frame_payload(store, len);
             open(rt, major, minor, wrapper, payload, session)
         }
-        Event::Refused { number, place } => {
-            receiver_refused(rt, number, place)?;
+        Event::Refused { refusal, place } => {
+            receiver_refused(rt, refusal, place)?;
             Ok(session)
         }
     }
@@ -65,9 +67,9 @@ pub fn end_line<R: Print>(rt: &R, out: &mut [u8], at: usize) -> io::Result<()> {
     rt.write_all(front(out, n))
 }
 
-fn receiver_refused<R: Print>(rt: &R, number: u8, place: usize) -> io::Result<()> {
+fn receiver_refused<R: Print>(rt: &R, refusal: Refusal, place: usize) -> io::Result<()> {
     let mut out = [0u8; 64];
-    let a = text::named(&mut out, 0, b"receiver refused ", number as u64);
+    let a = text::named(&mut out, 0, b"receiver refused ", refusal.number() as u64);
     let b = text::named(&mut out, a, b" ", place as u64);
     end_line(rt, &mut out, b)
 }
