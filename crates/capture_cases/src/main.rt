@@ -10,14 +10,11 @@
 ghost use Rattle.std.specs.Prelude.{◌≡◌, ◌+◌, ◌≤◌, ◌<◌, length};
 
 use capture::Counts;
+use console::front;
 use line::Event;
 use std::io;
 use text::reading;
 use wire::{Part, Refusal};
-
-fn front(s: &[u8], n: usize) -> &[u8] {
-    wire::part_of(s, Part { start: 0, len: n })
-}
 
 // `; OFFSET frame MAJOR MINOR TYPE LENGTH` and the payload, or `; OFFSET refused N PLACE`.
 fn event(out: &mut [u8], at: usize, offset: usize, e: Option<Event>, payload: &[u8]) -> usize {
@@ -304,14 +301,5 @@ fn case<R: Print>(rt: &R, line: &[u8]) -> io::Result<()> {
 }
 
 fn main(rt: HostRuntime) -> io::Result<()> {
-    let mut buffer = console::large_buffer();
-    let n = console::read_full(&rt, &mut buffer)?;
-    cases(&rt, &buffer[..n])
-}
-
-fn cases<R: Print>(rt: &R, s: &[u8]) -> io::Result<()> {
-    for k in 0..reading::count(s, b'\n') {
-        case(rt, reading::field(s, b'\n', k))?;
-    }
-    Ok(())
+    console::for_each_line(&rt, &mut console::large_buffer(), |line| case(&rt, line))
 }

@@ -10,20 +10,17 @@
 
 ghost use Rattle.std.specs.Prelude.{◌≤◌, ◌<◌, length};
 
+use console::front;
 use line::{Event, Progress, Receiver};
 use std::io;
 use text::reading;
-use wire::{Part, Refusal};
+use wire::Refusal;
 
 // The record after some bytes, and the place behind the text of their events.
 #[derive(Clone, Copy)]
 struct Run {
     receiver: Receiver,
     at: usize,
-}
-
-fn front(s: &[u8], n: usize) -> &[u8] {
-    wire::part_of(s, Part { start: 0, len: n })
 }
 
 // Bytes as ` 7e*3 5c*1`.
@@ -200,14 +197,5 @@ fn case<R: Print>(rt: &R, line: &[u8]) -> io::Result<()> {
 }
 
 fn main(rt: HostRuntime) -> io::Result<()> {
-    let mut buffer = console::large_buffer();
-    let n = console::read_full(&rt, &mut buffer)?;
-    cases(&rt, &buffer[..n])
-}
-
-fn cases<R: Print>(rt: &R, s: &[u8]) -> io::Result<()> {
-    for k in 0..reading::count(s, b'\n') {
-        case(rt, reading::field(s, b'\n', k))?;
-    }
-    Ok(())
+    console::for_each_line(&rt, &mut console::large_buffer(), |line| case(&rt, line))
 }
