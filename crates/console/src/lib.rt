@@ -15,6 +15,7 @@ pub fn read_full<R: Input>(rt: &R, buf: &mut [u8]) -> io::Result<usize>
 {
     let mut reader = rt.reader();
     let mut done: usize = 0;
+    // A proved loop has to end, and nothing shows that the input does: it has as many turns as no run uses up.
     for _ in 0..u64::MAX {
         let n = reader.read(&mut buf[done..])?;
         if n == 0 {
@@ -63,6 +64,7 @@ fn each_line<F: FnMut(&[u8]) -> io::Result<()>>(s: &[u8], mut f: F) -> io::Resul
     ensures { IfOk result (λ done. (last : F) × FoldsTo (λ p x q. CalledAt F.FnMut p x (Ok done) q) f (lines s.now) last) }
 {
     let mut rest = s;
+    // Not a `for` over the library's split: what Rattle writes for that loop in a generic function does not check.
     while let Some((line, behind)) = split_line(rest) {
         f(line)?;
         rest = behind;
