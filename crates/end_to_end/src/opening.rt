@@ -1,7 +1,7 @@
 // The line received, and each frame opened: one line of output each.
 use access::Mode;
 use aes::Small;
-use bridge::{Context, Opened, Place, Refused, Reply};
+use bridge::{Context, Place, Refused, Reply};
 use console::front;
 use line::{Event, Progress, Receiver};
 use session::Session;
@@ -93,24 +93,35 @@ fn open<R: Print>(
     };
     let opened = bridge::uart::open::<Small>(major, minor, wrapper, payload, context, &mut work);
     let mut out = [0u8; 2048];
-    let end = answer(&mut out, opened, payload, &work);
+    let content = content_text::message;
+    let end = show(&mut out, 0, opened.answer, content, payload, &work);
     end_line(rt, &mut out, end)?;
     Ok(opened.session)
 }
 
-fn answer(out: &mut [u8], opened: Opened, payload: &[u8], work: &[u8]) -> usize {
-    match opened.answer {
-        Ok((m, place)) => {
-            let a = text::put(out, 0, b"accepted");
-            let b = content_text::message(out, a, m);
-            contents(out, b, place, payload, work)
+// What was accepted, by its content and payload, or the refusal.
+pub fn show<T, F: FnOnce(&mut [u8], usize, T) -> usize>(
+    out: &mut [u8],
+    at: usize,
+    answer: Result<(T, Place), Refused>,
+    content: F,
+    frame: &[u8],
+    work: &[u8],
+) -> usize
+    requires { F.IsAlwaysCallable content }
+{
+    match answer {
+        Ok((accepted, place)) => {
+            let a = text::put(out, at, b"accepted");
+            let b = content(out, a, accepted);
+            contents(out, b, place, frame, work)
         }
-        Err(r) => refused(out, 0, r),
+        Err(r) => refused(out, at, r),
     }
 }
 
 // Where the payload came from, and its bytes.
-pub fn contents(out: &mut [u8], at: usize, place: Place, frame: &[u8], work: &[u8]) -> usize {
+fn contents(out: &mut [u8], at: usize, place: Place, frame: &[u8], work: &[u8]) -> usize {
     let a = match place {
         Place::Work(_) => text::put(out, at, b"; deciphered ["),
         Place::Frame(_) => text::put(out, at, b"; plain ["),
@@ -119,7 +130,7 @@ pub fn contents(out: &mut [u8], at: usize, place: Place, frame: &[u8], work: &[u
     text::put(out, b, b"]")
 }
 
-pub fn refused(out: &mut [u8], at: usize, r: Refused) -> usize {
+fn refused(out: &mut [u8], at: usize, r: Refused) -> usize {
     let a = text::named(out, at, b"refused ", r.refusal.number() as u64);
     match r.reply {
         None => text::put(out, a, b" no reply"),

@@ -1,7 +1,7 @@
 // Control packets as a phone sends them: sealed with a level's key, and opened. Numbers: the level, the mode n or s, the packet nonce's number.
 use access::{Level, Mode};
 use aes::Small;
-use bridge::{Link, OpenedCommand};
+use bridge::Link;
 use console::front;
 use session::{Connection, Keys, NonceMemory};
 use std::io;
@@ -128,19 +128,9 @@ fn open(out: &mut [u8], at: usize, packet: &[u8], connection: Connection, mode: 
         mode,
     };
     let opened = bridge::characteristic::open::<Small>(packet, link, &mut work);
+    let content = content_text::command;
     Answered {
-        end: show(out, at, opened, packet, &work),
+        end: crate::opening::show(out, at, opened.answer, content, packet, &work),
         connection: opened.connection,
-    }
-}
-
-fn show(out: &mut [u8], at: usize, opened: OpenedCommand, packet: &[u8], work: &[u8]) -> usize {
-    match opened.answer {
-        Ok((c, place)) => {
-            let a = text::put(out, at, b"accepted");
-            let b = content_text::command(out, a, c);
-            crate::opening::contents(out, b, place, packet, work)
-        }
-        Err(r) => crate::opening::refused(out, at, r),
     }
 }

@@ -141,34 +141,25 @@ fn summary<R: Print>(rt: &R, group: &[u8], got: &[[u8; 16]], out: &mut [u8]) -> 
 fn run_keyed<R: Print>(rt: &R, group: &[u8], out: &mut [u8]) -> io::Result<usize> {
     let keys = aes::expand_key(block(line(group, 3)));
     let input = block(line(group, 4));
-    let what = line(group, 2);
-    if check::same(what, b" values passed") {
-        let all = values(&keys, input);
-        return summary(rt, group, &all, out);
+    match line(group, 2) {
+        b" values passed" => summary(rt, group, &values(&keys, input), out),
+        b" values of the inverse cipher passed" => {
+            summary(rt, group, &inv_values(&keys, input), out)
+        }
+        b" outputs of the inverse cipher passed" => {
+            summary(rt, group, &[aes::decrypt_block(&keys, input)], out)
+        }
+        _ => summary(rt, group, &keys, out),
     }
-    if check::same(what, b" values of the inverse cipher passed") {
-        let all = inv_values(&keys, input);
-        return summary(rt, group, &all, out);
-    }
-    if check::same(what, b" outputs of the inverse cipher passed") {
-        let output = [aes::decrypt_block(&keys, input)];
-        return summary(rt, group, &output, out);
-    }
-    summary(rt, group, &keys, out)
 }
 
 // A group, and its summary in the room.
 fn run<R: Print>(rt: &R, group: &[u8], out: &mut [u8]) -> io::Result<usize> {
-    let what = line(group, 2);
-    if check::same(what, b" rows of the box passed") {
-        let rows = box_rows(false);
-        return summary(rt, group, &rows, out);
+    match line(group, 2) {
+        b" rows of the box passed" => summary(rt, group, &box_rows(false), out),
+        b" rows of the inverse box passed" => summary(rt, group, &box_rows(true), out),
+        _ => run_keyed(rt, group, out),
     }
-    if check::same(what, b" rows of the inverse box passed") {
-        let rows = box_rows(true);
-        return summary(rt, group, &rows, out);
-    }
-    run_keyed(rt, group, out)
 }
 
 fn main(rt: HostRuntime) -> io::Result<()> {

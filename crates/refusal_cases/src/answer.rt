@@ -1,7 +1,7 @@
 // What comes of a case: the answer, the work buffer, the session.
 ghost use Rattle.std.specs.Prelude.{◌≤◌, length};
 
-use bridge::{Opened, OpenedCommand, Refused, Reply};
+use bridge::{Place, Refused, Reply};
 use console::front;
 use session::{Connection, Session};
 
@@ -20,22 +20,21 @@ fn bytes(out: &mut [u8], at: usize, name: &[u8], s: &[u8]) -> usize {
     text::hex(out, named, s)
 }
 
-pub fn message(out: &mut [u8], at: usize, o: Opened, frame: &[u8], work: &[u8]) -> usize {
-    match o.answer {
-        Ok((m, place)) => {
-            let told = content_text::message(out, at, m);
+// What was accepted, by its content and payload, or the refusal.
+pub fn opened<T, F: FnOnce(&mut [u8], usize, T) -> usize>(
+    out: &mut [u8],
+    at: usize,
+    answer: Result<(T, Place), Refused>,
+    content: F,
+    frame: &[u8],
+    work: &[u8],
+) -> usize
+    requires { F.IsAlwaysCallable content }
+{
+    match answer {
+        Ok((accepted, place)) => {
+            let told = content(out, at, accepted);
             let payload = bridge::payload(frame, work, place);
-            bytes(out, told, b" accepted, payload ", payload)
-        }
-        Err(r) => refused(out, at, r),
-    }
-}
-
-pub fn command(out: &mut [u8], at: usize, o: OpenedCommand, packet: &[u8], work: &[u8]) -> usize {
-    match o.answer {
-        Ok((c, place)) => {
-            let told = content_text::command(out, at, c);
-            let payload = bridge::payload(packet, work, place);
             bytes(out, told, b" accepted, payload ", payload)
         }
         Err(r) => refused(out, at, r),

@@ -38,7 +38,8 @@ fn frame(line: &[u8], payload: &[u8], out: &mut [u8], at: usize, work: &mut [u8]
         given::context(line),
         work,
     );
-    let told = answer::message(out, at, opened, payload, work);
+    let content = content_text::message;
+    let told = answer::opened(out, at, opened.answer, content, payload, work);
     let after = answer::session(out, told, reading::field(line, b'|', 3), opened.session);
     answer::work(out, after, work)
 }
@@ -46,7 +47,8 @@ fn frame(line: &[u8], payload: &[u8], out: &mut [u8], at: usize, work: &mut [u8]
 // A characteristic packet's case.
 fn packet(line: &[u8], packet: &[u8], out: &mut [u8], at: usize, work: &mut [u8]) -> usize {
     let opened = bridge::characteristic::open::<Small>(packet, given::link(line), work);
-    let told = answer::command(out, at, opened, packet, work);
+    let content = content_text::command;
+    let told = answer::opened(out, at, opened.answer, content, packet, work);
     let after = answer::connection(out, told, reading::field(line, b'|', 3), opened.connection);
     answer::work(out, after, work)
 }
