@@ -5,7 +5,9 @@ mod tables;
 
 ghost use Rattle.std.specs.Prelude.{◌≡◌, ◌<◌};
 ghost use Rattle.std.specs.Int.Bits.{bit_xor};
-ghost use Rattle.crc.specs.Crc.{crc_byte, crc_from, crc_of, Shifted};
+ghost use Rattle.crc.specs.Crc.{crc_byte, crc_from, crc_of};
+
+use tables::{ONCE, TWICE};
 
 // Which entry of a table a byte asks for, where `top` is the CRC's upper or lower byte.
 fn entry(top: u16, b: u8) -> usize
@@ -15,62 +17,37 @@ fn entry(top: u16, b: u8) -> usize
     usize::from(top ^ u16::from(b))
 }
 
-// Both tables, to be made once a call and lent: a constant that is read in a loop is built at each turn.
-#[derive(Drop)]
-struct TablePair {
-    once: [u16; 256],
-    twice: [u16; 256],
-    ghost once_shifted: { Shifted 8 once },
-    ghost twice_shifted: { Shifted 16 twice },
+// The CRC after one more byte.
+fn after_one(c: u16, a: u8) -> u16
+    ensures { result ≡ crc_byte c a }
+{
+    let i = entry(c >> 8, a);
+    ONCE[i] ^ (c << 8)
 }
 
-impl TablePair {
-    fn new() -> TablePair {
-        TablePair {
-            once: tables::ONCE,
-            twice: tables::TWICE,
-        }
-    }
-
-    // The CRC after one more byte.
-    fn after_one(&self, c: u16, a: u8) -> u16
-        ensures { result ≡ crc_byte c a }
-    {
-        let i = entry(c >> 8, a);
-        self.once[i] ^ (c << 8)
-    }
-
-    // The CRC after two more bytes.
-    fn after_two(&self, c: u16, a: u8, b: u8) -> u16
-        ensures { result ≡ crc_byte (crc_byte c a) b }
-    {
-        let i = entry(c >> 8, a);
-        let j = entry(c % 256, b);
-        self.twice[i] ^ self.once[j]
-    }
-
-    // The CRC after the bytes of a slice.
-    fn over(&self, from: u16, s: &[u8]) -> u16
-        ensures { result ≡ crc_from from s.now }
-    {
-        let mut c = from;
-        let mut rest = s;
-        while let [a, b, more @ ..] = rest {
-            c = self.after_two(c, *a, *b);
-            rest = more;
-        }
-        match rest {
-            [a] => self.after_one(c, *a),
-            _ => c,
-        }
-    }
+// The CRC after two more bytes.
+fn after_two(c: u16, a: u8, b: u8) -> u16
+    ensures { result ≡ crc_byte (crc_byte c a) b }
+{
+    let i = entry(c >> 8, a);
+    let j = entry(c % 256, b);
+    TWICE[i] ^ ONCE[j]
 }
 
 // The CRC of a slice, taken on from `from`.
 pub fn crc_from(from: u16, s: &[u8]) -> u16
     ensures { result ≡ crc_from from s.now }
 {
-    TablePair::new().over(from, s)
+    let mut c = from;
+    let mut rest = s;
+    while let [a, b, more @ ..] = rest {
+        c = after_two(c, *a, *b);
+        rest = more;
+    }
+    match rest {
+        [a] => after_one(c, *a),
+        _ => c,
+    }
 }
 
 // The CRC of a slice.

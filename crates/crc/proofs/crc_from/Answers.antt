@@ -1,6 +1,6 @@
--- `TablePair::over` meets its contract. Assumes nothing.
+-- `crc_from` meets its contract. Assumes nothing.
 use Rattle.crc.proofs.Loop.{next_two, last, end}
-use Rattle.crc.proofs.TablePair.over.Goals as goal
+use Rattle.crc.proofs.crc_from.Goals as goal
 
 pub loop-rest-preserved : goal.loop-rest-preserved
 loop-rest-preserved c = next_two _ _ _ _ c.in-len2-up.len_at_least c.after_two-c.ensures c.loop-rest.invariant
