@@ -22,15 +22,14 @@ use wire::{Part, Refusal};
 fn connection_key(link: Link, packet: &[u8]) -> Result<[u8; 16], Refusal>
     ensures { result ≡ judge refusing (specs.connection_rules link packet.now) (Ok (key_bytes (specs.level_key link packet.now))) }
 {
-    let connection = link.connection;
     let level = wire::byte_at(packet, 3);
     let Some(key) = link.keys.serving_number(link.mode, level) else {
         return Err(Refusal::NoKey);
     };
-    if !connection.is_there() {
+    if !link.connection.is_there() {
         return Err(Refusal::NoSession);
     }
-    envelope::judge_nonce(connection.memory, packet)?;
+    envelope::judge_nonce(link.connection.memory, packet)?;
     Ok(key)
 }
 
@@ -118,8 +117,7 @@ fn decipher<C: BlockCipher>(key: [u8; 16], packet: &[u8], link: Link, work: &mut
     requires held { key ≡ key_bytes (specs.level_key link packet.now) }
     ensures { work.new ≡ specs.packet_text link packet.now ++ drop (16 * blocks_in packet.now) work.old }
 {
-    let nonce = link.connection.nonce;
-    let _ = envelope::decipher::<C>(key, nonce, packet, work);
+    let _ = envelope::decipher::<C>(key, link.connection.nonce, packet, work);
 }
 
 // A packet that has passed what is asked of it before it is deciphered.

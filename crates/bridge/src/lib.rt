@@ -67,6 +67,7 @@ pub struct Opened {
 }
 
 // The command and where its payload lies. The connection session after the packet goes into the next opening, also where the answer is a refusal.
+// Not one generic struct with Opened: every signature and definition that says Opened would name two types, and the connection session would be `session`.
 #[derive(Clone, Copy)]
 pub struct OpenedCommand {
     pub answer: Result<(Command, Place), Refused>,

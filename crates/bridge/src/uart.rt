@@ -99,20 +99,19 @@ fn open_plain(payload: &[u8], context: Context) -> Opened
 fn session_key(context: Context, payload: &[u8]) -> Result<[u8; 16], Refusal>
     ensures { result ≡ judge refusing (specs.session_rules context payload.now) (Ok (key_bytes (specs.admin_key context))) }
 {
-    let session = context.session;
     if wire::byte_at(payload, 3) != 0 {
         return Err(Refusal::NoKey);
     }
     let Some(key) = context.keys.serving(context.mode, Level::Admin) else {
         return Err(Refusal::NoKey);
     };
-    if !session.is_there() {
+    if !context.session.is_there() {
         return Err(Refusal::NoSession);
     }
-    if !session.valid_at(context.time) {
+    if !context.session.valid_at(context.time) {
         return Err(Refusal::SessionRunOut);
     }
-    envelope::judge_nonce(session.memory, payload)?;
+    envelope::judge_nonce(context.session.memory, payload)?;
     Ok(key)
 }
 
@@ -162,8 +161,7 @@ fn decipher<C: BlockCipher>(key: [u8; 16], payload: &[u8], context: Context, wor
     requires held { key ≡ key_bytes (specs.admin_key context) }
     ensures { work.new ≡ specs.uart_text context payload.now ++ drop (16 * blocks_in payload.now) work.old }
 {
-    let nonce = context.session.nonce;
-    let _ = envelope::decipher::<C>(key, nonce, payload, work);
+    let _ = envelope::decipher::<C>(key, context.session.nonce, payload, work);
 }
 
 // An encrypted message that has passed what is asked of it before it is deciphered.

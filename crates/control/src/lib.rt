@@ -100,18 +100,17 @@ pub struct DeviceHeartbeatFields {
 pub fn key_part(keys: Part, index: usize) -> Part
     ensures { result ≡ key_part keys index }
 {
-    let start = keys.start;
     if keys.len != 96 {
         return Part { start: 0, len: 0 };
     }
     if 5 < index {
         return Part { start: 0, len: 0 };
     }
-    if 65535 < start {
+    if 65535 < keys.start {
         return Part { start: 0, len: 0 };
     }
     Part {
-        start: start + 16 * index,
+        start: keys.start + 16 * index,
         len: 16,
     }
 }

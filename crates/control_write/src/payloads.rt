@@ -52,15 +52,13 @@ pub fn setup(
 ) -> Result<usize, Refusal>
     ensures { WritesBehind front.now limit (Setup f) bytes.now out.old result out.new }
 {
-    let keys = f.keys;
-    let rest = f.rest;
-    if wire::layouts::runs_past(bytes, keys) {
+    if wire::layouts::runs_past(bytes, f.keys) {
         return Err(Refusal::BadMessageData);
     }
-    if wire::layouts::runs_past(bytes, rest) {
+    if wire::layouts::runs_past(bytes, f.rest) {
         return Err(Refusal::BadMessageData);
     }
-    if keys.len != 96 {
+    if f.keys.len != 96 {
         return Err(Refusal::BadMessageData);
     }
     let fields = [f.stone, f.sphere];
@@ -69,8 +67,8 @@ pub fn setup(
         limit,
         0,
         &fields,
-        wire::part_of(bytes, keys),
-        wire::part_of(bytes, rest),
+        wire::part_of(bytes, f.keys),
+        wire::part_of(bytes, f.rest),
         out,
     )
 }
@@ -123,8 +121,7 @@ pub fn set_state(
 ) -> Result<usize, Refusal>
     ensures { WritesBehind front.now limit (SetState f) bytes.now out.old result out.new }
 {
-    let value = f.value;
-    if wire::layouts::runs_past(bytes, value) {
+    if wire::layouts::runs_past(bytes, f.value) {
         return Err(Refusal::BadMessageData);
     }
     if 1 < f.mode {
@@ -137,7 +134,7 @@ pub fn set_state(
         3,
         &fields,
         &bytes[0..0],
-        wire::part_of(bytes, value),
+        wire::part_of(bytes, f.value),
         out,
     )
 }
@@ -187,14 +184,13 @@ pub fn multi_switch(
 ) -> Result<usize, Refusal>
     ensures { WritesBehind front.now limit (MultiSwitch f) bytes.now out.old result out.new }
 {
-    let pairs = f.pairs;
-    if wire::layouts::runs_past(bytes, pairs) {
+    if wire::layouts::runs_past(bytes, f.pairs) {
         return Err(Refusal::BadMessageData);
     }
-    if pairs.len != 2 * wire::wide(f.count) {
+    if f.pairs.len != 2 * wire::wide(f.count) {
         return Err(Refusal::BadMessageData);
     }
-    let named = wire::part_of(bytes, pairs);
+    let named = wire::part_of(bytes, f.pairs);
     if wire::layouts::second_above(100, named) {
         return Err(Refusal::BadMessageData);
     }
@@ -211,18 +207,17 @@ pub fn register_tracked_device(
 ) -> Result<usize, Refusal>
     ensures { WritesBehind front.now limit (RegisterTrackedDevice f) bytes.now out.old result out.new }
 {
-    let ttl = f.ttl;
     if 0xFFFFFF < f.token {
         return Err(Refusal::BadMessageData);
     }
-    if 65535 < ttl.0 {
+    if 65535 < f.ttl.0 {
         return Err(Refusal::BadMessageData);
     }
     let none = &bytes[0..0];
     let d = wire::u16_bytes(f.device);
     let o = wire::unsigned_of(f.offset);
     let t = wire::u24_bytes(f.token);
-    let m = wire::u16_bytes(ttl.0 as u16);
+    let m = wire::u16_bytes(f.ttl.0 as u16);
     let fields = [
         d[0], d[1], f.location, f.profile, o, f.flags, t[0], t[1], t[2], m[0], m[1],
     ];
@@ -238,17 +233,16 @@ pub fn tracked_device_heartbeat(
 ) -> Result<usize, Refusal>
     ensures { WritesBehind front.now limit (TrackedDeviceHeartbeat f) bytes.now out.old result out.new }
 {
-    let ttl = f.ttl;
     if 0xFFFFFF < f.token {
         return Err(Refusal::BadMessageData);
     }
-    if 60 < ttl.0 {
+    if 60 < f.ttl.0 {
         return Err(Refusal::BadMessageData);
     }
     let none = &bytes[0..0];
     let d = wire::u16_bytes(f.device);
     let t = wire::u24_bytes(f.token);
-    let fields = [d[0], d[1], f.location, t[0], t[1], t[2], ttl.0 as u8];
+    let fields = [d[0], d[1], f.location, t[0], t[1], t[2], f.ttl.0 as u8];
     packet(front, limit, 71, &fields, none, none, out)
 }
 

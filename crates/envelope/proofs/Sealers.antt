@@ -21,7 +21,6 @@ use Rattle.aes.proofs.KeyStream.{length_ctr}
 use Rattle.session.specs.Keys.{key_bytes}
 use Rattle.envelope.specs.Blocks.{padding_for, padded, enveloped, outside, sealer_rules, Seals}
 use Rattle.envelope.proofs.Bytes.{three}
-use Rattle.envelope.proofs.Envelopes.{length_padded, length_enveloped}
 
 -- a store that had room
 pub stored : {at : ℕ} {bytes room : List ℕ} {answer : Result ℕ Refusal} {after : List ℕ} → Stores (no_room at bytes room ∷ []) at bytes room answer after
@@ -60,6 +59,10 @@ padded_front s l room n el e h =
     let d : n ≡ length s + k = omega arith in
     rw d (take-append-add s (replicate (room - l) 0) k ∙ ap (λ (l : List ℕ). s ++ l) (take_zeros k (room - l) (omega arith)))
 
+pub padded_text : (h b : List ℕ) {n : ℕ} {text : List ℕ} → length h + length b ≤ 496 → n ≡ 16 * blocks_for (length h + length b)
+    → text ≡ (h ++ b) ++ replicate (496 - (length h + length b)) 0 → take n text ≡ padded (h ++ b)
+padded_text h b {n} k en et = ap (take n) et ∙ padded_front (h ++ b) (length h + length b) 496 n (length-append h b) en (omega arith)
+
 -- ---- the image: four bytes, and the blocks behind them
 image_made : (key pn sn : List ℕ) (id : ℕ) (text room : List ℕ) {o y : List ℕ} → length pn ≡ 3 → 4 ≤ length room
     → o ≡ placed 0 (get_or pn 0 0 ∷ get_or pn 1 0 ∷ get_or pn 2 0 ∷ id ∷ []) room → length o ≡ length room
@@ -80,24 +83,15 @@ image_made key pn sn id text room {o} {y} lp h eo lo ey =
     rw (lo, t, d, d2, w, append-nil)
     (sym (ap (λ (l : List ℕ). l ++ drop (0 + length l) room) (ap (λ (l : List ℕ). l ++ (id ∷ c)) p) ∙ rw z))
 
-pub image_stored : (key pn sn : List ℕ) (id : ℕ) (h b room : List ℕ) (n : ℕ) (text : List ℕ) {o y : List ℕ} {r r' : Result ℕ Refusal}
-    → length pn ≡ 3 → length h + length b ≤ 496 → n ≡ 16 * blocks_for (length h + length b) → 4 + n ≤ length room
-    → text ≡ (h ++ b) ++ replicate (496 - (length h + length b)) 0
+pub image_stored : (key pn sn : List ℕ) (id : ℕ) (text room : List ℕ) {o y : List ℕ} {r r' : Result ℕ Refusal}
+    → length pn ≡ 3 → 4 + length text ≤ length room
     → Stores (no_room 0 (get_or pn 0 0 ∷ get_or pn 1 0 ∷ get_or pn 2 0 ∷ id ∷ []) room ∷ []) 0 (get_or pn 0 0 ∷ get_or pn 1 0 ∷ get_or pn 2 0 ∷ id ∷ []) room r o
     → length o ≡ length room
-    → Stores (no_room 0 (ctr_of key pn sn (take n text)) (take (length o - 4) (drop 4 o)) ∷ []) 0 (ctr_of key pn sn (take n text)) (take (length o - 4) (drop 4 o)) r' y
-    → take 4 o ++ (y ++ drop (length o - 4) (drop 4 o)) ≡ placed 0 (enveloped key pn sn id (padded (h ++ b))) room
-image_stored key pn sn id h b room n text {o} lp k en fits et w lo w' =
-    let e : take n text ≡ padded (h ++ b) = ap (take n) et ∙ padded_front (h ++ b) (length h + length b) 496 n (length-append h b) en (omega arith) in
-    let room' : List ℕ = take (length o - 4) (drop 4 o) in
-    let l : length room' ≡ length o - 4 = length-take-le (length o - 4) (drop 4 o) (omega (arith, length-drop 4 o)) in
-    image_made key pn sn id (padded (h ++ b)) room lp (omega arith) (stored w (omega arith)) lo
-    (stored w' (omega (arith, length_ctr key pn sn (take n text), ap length e, length_padded (h ++ b), length-append h b))
-    ∙ ap (λ (t : List ℕ). placed 0 (ctr_of key pn sn t) room') e)
-
-pub length_image : (key pn sn : List ℕ) (id : ℕ) (h b : List ℕ) → length pn ≡ 3
-    → length (enveloped key pn sn id (padded (h ++ b))) ≡ 4 + 16 * blocks_for (length h + length b)
-length_image key pn sn id h b lp = omega (arith, length_enveloped key pn sn id (padded (h ++ b)) lp, length_padded (h ++ b), length-append h b)
+    → Stores (no_room 0 (ctr_of key pn sn text) (take (length o - 4) (drop 4 o)) ∷ []) 0 (ctr_of key pn sn text) (take (length o - 4) (drop 4 o)) r' y
+    → take 4 o ++ (y ++ drop (length o - 4) (drop 4 o)) ≡ placed 0 (enveloped key pn sn id text) room
+image_stored key pn sn id text room {o} lp fits w lo w' =
+    let l : length (take (length o - 4) (drop 4 o)) ≡ length o - 4 = length-take-le (length o - 4) (drop 4 o) (omega (arith, length-drop 4 o)) in
+    image_made key pn sn id text room lp (omega arith) (stored w (omega arith)) lo (stored w' (omega (arith, length_ctr key pn sn text)))
 
 -- ---- how a sealer ends
 module _ (image room : List ℕ) (held : Bool) where

@@ -1,12 +1,11 @@
 // Sealers: the image of an encrypted message or packet, at the front of the lent room. They judge lengths, room and key alone.
-ghost use Rattle.std.specs.Prelude.{◌≡◌, is_some, not, ◌++◌, ◌∷◌, [], ◌+◌, ◌-◌, ◌*◌, ◌≤◌, length, replicate};
+ghost use Rattle.std.specs.Prelude.{◌≡◌, is_some, not, ◌++◌, ◌∷◌, [], ◌+◌, ◌-◌, ◌≤◌, length, replicate};
 ghost use Rattle.wire.specs.Numbers.{le};
 ghost use Rattle.wire.specs.Rules.{◌when◌};
-ghost use Rattle.wire.specs.Writing.{Stores, no_room, placed};
-ghost use Rattle.aes.specs.Ctr.{blocks_for};
+ghost use Rattle.wire.specs.Writing.{Stores, no_room};
 ghost use Rattle.access.specs.Level.{level_number};
 ghost use Rattle.session.specs.Keys.{key_bytes, key_for};
-ghost use Rattle.envelope.specs.Blocks.{padded, enveloped, outside, Seals};
+ghost use Rattle.envelope.specs.Blocks.{enveloped, outside, Seals};
 ghost use Rattle.envelope.specs.Sealed.{sealed_image};
 ghost use Rattle.envelope.specs.Characteristic.{characteristic_image};
 
@@ -34,7 +33,9 @@ pub fn seal<C: BlockCipher>(
     }
     let key = keys.serving(mode, Level::Admin);
     let head = header(size as u16);
-    envelop::<C>(key, packet_nonce, session_nonce, 0, &head, message, out)
+    let text = with_zeros(&head, message);
+    let n = 16 * aes::blocks_for(6 + size);
+    envelop::<C>(key, packet_nonce, session_nonce, 0, &text[..n], out)
 }
 
 // The characteristic packet of a control packet: 17, 25, 10.
@@ -57,15 +58,9 @@ pub fn seal_characteristic<C: BlockCipher>(
     }
     let key = keys.serving(mode, level);
     let number = access::level_number(level);
-    envelop::<C>(
-        key,
-        packet_nonce,
-        session_nonce,
-        number,
-        &validation,
-        packet,
-        out,
-    )
+    let text = with_zeros(&validation, packet);
+    let n = 16 * aes::blocks_for(4 + size);
+    envelop::<C>(key, packet_nonce, session_nonce, number, &text[..n], out)
 }
 
 // CAFEBABE and the message's size.
@@ -76,48 +71,28 @@ fn header(size: u16) -> [u8; 6]
     [0xBE, 0xBA, 0xFE, 0xCA, bytes[0], bytes[1]]
 }
 
-// Packet nonce, key ID or level, and the blocks of head, body and padding: 25, 10.
+// Packet nonce, key ID or level, and the blocks of a padded text: 25, 10.
 fn envelop<C: BlockCipher>(
     key: Option<[u8; 16]>,
     packet_nonce: [u8; 3],
     session_nonce: [u8; 5],
     id: u8,
-    head: &[u8],
-    body: &[u8],
+    text: &[u8],
     out: &mut [u8],
 ) -> Result<usize, Refusal>
-    requires { length head.now + length body.now ≤ 496 }
-    ensures { Stores (no_room 0 (enveloped (key_bytes key) packet_nonce session_nonce id (padded (head.now ++ body.now))) out.old ∷ (10 when not (is_some key)) ∷ []) 0
-        (enveloped (key_bytes key) packet_nonce session_nonce id (padded (head.now ++ body.now))) out.old result out.new }
+    ensures { Stores (no_room 0 (enveloped (key_bytes key) packet_nonce session_nonce id text.now) out.old ∷ (10 when not (is_some key)) ∷ []) 0
+        (enveloped (key_bytes key) packet_nonce session_nonce id text.now) out.old result out.new }
 {
-    let n = 16 * aes::blocks_for(head.len() + body.len());
-    if out.len() < 4 + n {
+    if out.len() < 4 || out.len() - 4 < text.len() {
         return Err(Refusal::NoRoom);
     }
     let Some(bytes) = key else {
         return Err(Refusal::NoKey);
     };
-    write_blocks::<C>(bytes, packet_nonce, session_nonce, id, n, head, body, out);
-    Ok(4 + n)
-}
-
-fn write_blocks<C: BlockCipher>(
-    key: [u8; 16],
-    packet_nonce: [u8; 3],
-    session_nonce: [u8; 5],
-    id: u8,
-    n: usize,
-    head: &[u8],
-    body: &[u8],
-    out: &mut [u8],
-)
-    requires { (length head.now + length body.now ≤ 496) × (n ≡ 16 * blocks_for (length head.now + length body.now)) × (4 + n ≤ length out.old) }
-    ensures { out.new ≡ placed 0 (enveloped key packet_nonce session_nonce id (padded (head.now ++ body.now))) out.old }
-{
-    let text = with_zeros(head, body);
     let front = [packet_nonce[0], packet_nonce[1], packet_nonce[2], id];
     let _ = wire::store(&front, 0, out);
-    let _ = aes::ctr::apply_ctr::<C>(key, packet_nonce, session_nonce, &text[..n], &mut out[4..]);
+    let _ = aes::ctr::apply_ctr::<C>(bytes, packet_nonce, session_nonce, text, &mut out[4..]);
+    Ok(4 + text.len())
 }
 
 // Head and body, and zero behind them.

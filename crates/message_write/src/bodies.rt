@@ -37,12 +37,18 @@ pub fn hello(flags: u8, bytes: &[u8], out: &mut [u8]) -> Result<usize, Refusal>
 pub fn session_nonce(f: SessionNonceFields, bytes: &[u8], out: &mut [u8]) -> Result<usize, Refusal>
     ensures { WritesMessage (SessionNonce f) bytes.now out.old result out.new }
 {
-    let timeout = f.timeout;
     let nonce = f.nonce;
-    if 255 < timeout.0 {
+    if 255 < f.timeout.0 {
         return Err(Refusal::BadMessageData);
     }
-    let fields = [timeout.0 as u8, nonce.0, nonce.1, nonce.2, nonce.3, nonce.4];
+    let fields = [
+        f.timeout.0 as u8,
+        nonce.0,
+        nonce.1,
+        nonce.2,
+        nonce.3,
+        nonce.4,
+    ];
     typed(1, &fields, &bytes[0..0], out)
 }
 
@@ -59,11 +65,10 @@ pub fn heartbeat(timeout: Seconds, bytes: &[u8], out: &mut [u8]) -> Result<usize
 pub fn status(f: StatusFields, bytes: &[u8], out: &mut [u8]) -> Result<usize, Refusal>
     ensures { WritesMessage (Status f) bytes.now out.old result out.new }
 {
-    let part = f.data;
-    if wire::layouts::runs_past(bytes, part) {
+    if wire::layouts::runs_past(bytes, f.data) {
         return Err(Refusal::BadMessageData);
     }
-    if part.len != 9 {
+    if f.data.len != 9 {
         return Err(Refusal::BadMessageData);
     }
     if 1 < f.kind {
@@ -73,7 +78,7 @@ pub fn status(f: StatusFields, bytes: &[u8], out: &mut [u8]) -> Result<usize, Re
         return Err(Refusal::BadMessageData);
     }
     let fields = [f.kind, f.flags];
-    typed(3, &fields, wire::part_of(bytes, part), out)
+    typed(3, &fields, wire::part_of(bytes, f.data), out)
 }
 
 pub fn get_mac(bytes: &[u8], out: &mut [u8]) -> Result<usize, Refusal>
@@ -94,10 +99,9 @@ pub fn control_packet(c: Command, bytes: &[u8], out: &mut [u8]) -> Result<usize,
 pub fn hub_reply(f: HubReplyFields, bytes: &[u8], out: &mut [u8]) -> Result<usize, Refusal>
     ensures { WritesMessage (HubReply f) bytes.now out.old result out.new }
 {
-    let part = f.data;
-    if wire::layouts::runs_past(bytes, part) {
+    if wire::layouts::runs_past(bytes, f.data) {
         return Err(Refusal::BadMessageData);
     }
     let fields = wire::u16_bytes(f.code);
-    typed(11, &fields, wire::part_of(bytes, part), out)
+    typed(11, &fields, wire::part_of(bytes, f.data), out)
 }

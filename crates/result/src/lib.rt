@@ -60,8 +60,7 @@ pub enum ResultRead {
 fn done_of(res: ResultPacket, q: &[u8]) -> ResultRead
     ensures { result ≡ case_for done res q.now }
 {
-    let command = res.command;
-    match command {
+    match res.command {
         72 => payloads::presence(res, q),
         80 => payloads::uptime(res, q),
         _ => ResultRead::Done(res),
@@ -72,11 +71,10 @@ fn done_of(res: ResultPacket, q: &[u8]) -> ResultRead
 fn outcome_of(res: ResultPacket, q: &[u8]) -> ResultRead
     ensures { result ≡ outcome_of res q.now }
 {
-    let code = res.code;
-    if payloads::means_done(code) {
+    if payloads::means_done(res.code) {
         return done_of(res, q);
     }
-    if code == 1 {
+    if res.code == 1 {
         return ResultRead::Waiting(res);
     }
     ResultRead::Failed(res)
@@ -122,11 +120,10 @@ pub fn read_result(packet: &[u8]) -> Result<ResultRead, Refusal>
 pub fn write_result(res: ResultPacket, bytes: &[u8], out: &mut [u8]) -> Result<usize, Refusal>
     ensures { Writes (result_bad res bytes.now) (result_image res bytes.now) out.old result out.new }
 {
-    let payload = res.payload;
-    if wire::layouts::runs_past(bytes, payload) {
+    if wire::layouts::runs_past(bytes, res.payload) {
         return Err(Refusal::BadMessageData);
     }
-    let q = wire::part_of(bytes, payload);
+    let q = wire::part_of(bytes, res.payload);
     if payloads::wrong_size(res.command, res.code, q) {
         return Err(Refusal::BadMessageData);
     }
@@ -155,12 +152,11 @@ pub fn write_presence(res: PresenceResult, out: &mut [u8]) -> Result<usize, Refu
 pub fn write_uptime(res: UptimeResult, out: &mut [u8]) -> Result<usize, Refusal>
     ensures { Writes (uptime_bad res) (uptime_image res) out.old result out.new }
 {
-    let uptime = res.uptime;
-    if 4294967295 < uptime.0 {
+    if 4294967295 < res.uptime.0 {
         return Err(Refusal::BadMessageData);
     }
     if payloads::means_done(res.code) {
-        let fields = wire::u32_bytes(uptime.0 as u32);
+        let fields = wire::u32_bytes(res.uptime.0 as u32);
         return payloads::packet(80, res.code, &fields, out);
     }
     Err(Refusal::BadMessageData)

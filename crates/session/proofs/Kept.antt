@@ -18,6 +18,19 @@ use Rattle.session.specs.declared.Session.{Session}
 use Rattle.session.specs.declared.Connection.{Connection}
 use Rattle.session.proofs.Remembered.{one_more_fits, remembers_one}
 
+-- the memory alone changes, and only where there is a session
+pub session_with : (s : Session) (n : ℕ) {b : Bool} {m : NonceMemory} → b ≡ session_there s → m ≡ pick b (remembering s.memory n) s.memory
+    → record { held = s.held; nonce = s.nonce; timeout = s.timeout; since = s.since; memory = m } ≡ session_remembering s n
+unfolding session_remembering
+session_with s n {b = true} e q = rw (← e, q) refl
+session_with s n {b = false} e q = rw (← e, q) refl
+
+pub connection_with : (c : Connection) (n : ℕ) {b : Bool} {m : NonceMemory} → b ≡ connection_there c → m ≡ pick b (remembering c.memory n) c.memory
+    → record { held = c.held; nonce = c.nonce; validation = c.validation; memory = m } ≡ connection_remembering c n
+unfolding connection_remembering
+connection_with c n {b = true} e q = rw (← e, q) refl
+connection_with c n {b = false} e q = rw (← e, q) refl
+
 module _ (s : Session) (n : ℕ) (there : session_there s ≡ true) where
   session_is : session_remembering s n ≡ record { held = s.held; nonce = s.nonce; timeout = s.timeout; since = s.since; memory = remembering s.memory n }
   unfolding session_remembering

@@ -4,6 +4,8 @@
 mod memory;
 
 ghost use Rattle.std.specs.Prelude.{◌≡◌};
+ghost use Rattle.wire.specs.Choice.{pick};
+ghost use Rattle.session.specs.Memory.{remembering};
 ghost use Rattle.session.specs.Session.{memory_after, no_session, session_there, with_nonce, whole_minutes, valid_at, session_remembering};
 ghost use Rattle.session.specs.Session.{no_connection, connection_there, with_data, connection_remembering};
 ghost use Rattle.session.specs.Keys.{key_for, key_for_number};
@@ -23,6 +25,7 @@ pub struct NonceMemory {
 // The user's session. There is none where held is false, or where the memory's count is above 8 (`is_there`).
 #[derive(Clone, Copy)]
 pub struct Session {
+    // Beside the fields and no Option over them: programs print the other fields of a session that is none.
     pub held: bool,
     pub nonce: [u8; 5],
     pub timeout: Minutes,
@@ -33,6 +36,7 @@ pub struct Session {
 // A connection session, which does not run out.
 #[derive(Clone, Copy)]
 pub struct Connection {
+    // As in Session.
     pub held: bool,
     pub nonce: [u8; 5],
     pub validation: [u8; 4],
@@ -67,6 +71,17 @@ fn memory_after(there: bool, old: [u8; 5], memory: NonceMemory, nonce: [u8; 5]) 
     }
 }
 
+// The memory with one more packet nonce, where there is a session.
+fn memory_with(there: bool, memory: NonceMemory, number: u32) -> NonceMemory
+    ensures { result ≡ pick there (remembering memory number) memory }
+{
+    if there {
+        memory.remember(number)
+    } else {
+        memory
+    }
+}
+
 impl Session {
     pub fn none() -> Session
         ensures { result ≡ no_session }
@@ -92,13 +107,12 @@ impl Session {
     pub fn with_nonce(self, nonce: [u8; 5], timeout: Minutes, now: Seconds) -> Session
         ensures { result ≡ with_nonce self nonce timeout now }
     {
-        let old = self.nonce;
         Session {
             held: true,
-            nonce: nonce,
-            timeout: timeout,
+            nonce,
+            timeout,
             since: now,
-            memory: memory_after(self.is_there(), old, self.memory, nonce),
+            memory: memory_after(self.is_there(), self.nonce, self.memory, nonce),
         }
     }
 
@@ -106,13 +120,11 @@ impl Session {
     pub fn valid_at(self, now: Seconds) -> bool
         ensures { result ≡ valid_at self now }
     {
-        let since = self.since;
-        let timeout = self.timeout;
-        if now.0 < since.0 {
+        if now.0 < self.since.0 {
             return false;
         }
-        let passed = whole_minutes(Seconds(now.0 - since.0));
-        if passed.0 < timeout.0 {
+        let passed = whole_minutes(Seconds(now.0 - self.since.0));
+        if passed.0 < self.timeout.0 {
             return self.is_there();
         }
         false
@@ -122,13 +134,10 @@ impl Session {
     pub fn remember(self, number: u32) -> Session
         ensures { result ≡ session_remembering self number }
     {
-        if self.is_there() {
-            let memory = self.memory;
-            let mut next = self;
-            next.memory = memory.remember(number);
-            return next;
+        Session {
+            memory: memory_with(self.is_there(), self.memory, number),
+            ..self
         }
-        self
     }
 }
 
@@ -144,7 +153,7 @@ impl Connection {
         }
     }
 
-    // Whether there is one. One whose memory's count lies outside its limits is none.
+    // Whether there is one. One whose memory's count lies outside its limits is none. A trait for this line, which stands in Session too, would be longer.
     #[tactic(auto, unfolding(crate::specs::Session::connection_there))]
     pub fn is_there(self) -> bool
         ensures { result ≡ connection_there self }
@@ -156,12 +165,11 @@ impl Connection {
     pub fn with_data(self, nonce: [u8; 5], validation: [u8; 4]) -> Connection
         ensures { result ≡ with_data self nonce validation }
     {
-        let old = self.nonce;
         Connection {
             held: true,
-            nonce: nonce,
-            validation: validation,
-            memory: memory_after(self.is_there(), old, self.memory, nonce),
+            nonce,
+            validation,
+            memory: memory_after(self.is_there(), self.nonce, self.memory, nonce),
         }
     }
 
@@ -169,13 +177,10 @@ impl Connection {
     pub fn remember(self, number: u32) -> Connection
         ensures { result ≡ connection_remembering self number }
     {
-        if self.is_there() {
-            let memory = self.memory;
-            let mut next = self;
-            next.memory = memory.remember(number);
-            return next;
+        Connection {
+            memory: memory_with(self.is_there(), self.memory, number),
+            ..self
         }
-        self
     }
 }
 

@@ -14,13 +14,13 @@ use Rattle.control_write.proofs.Refusing.{bad_size, long_only}
 use borrow.Author.Rules.{rules}
 use Rattle.control_write.proofs.payloads.multi_switch.Goals as goal
 
-pub returns-then-pairs-wide : goal.returns-then-pairs-wide
-returns-then-pairs-wide c =
+pub returns-then-f-wide : goal.returns-then-f-wide
+returns-then-f-wide c =
     let g = c.args in
     let s = g.bytes.now in
     let q = payload_image (MultiSwitch g.f) s in
     let l = part_length s g.f.pairs (sym c.runs_past.ensures ∙ c.if-runs_past.false) in
-    let w = rw c.wide.ensures.0 at c.if-pairs-wide.true in
+    let w = rw c.wide.ensures.0 at c.if-f-wide.true in
     writes_bad (bad_size g.limit (MultiSwitch g.f) g.bytes.now (simp (ne_eqb (length q) (1 + 2 * g.f.count) (omega arith))))
 
 pub returns : goal.returns
@@ -30,7 +30,7 @@ returns c =
     let q = payload_image (MultiSwitch g.f) s in
     let e : past s g.f.pairs ≡ false = sym c.runs_past.ensures ∙ c.if-runs_past.false in
     let l = part_length s g.f.pairs e in
-    let w = rw c.wide.ensures.0 at c.if-pairs-wide.false in
+    let w = rw c.wide.ensures.0 at c.if-f-wide.false in
     writes_as
     (long_only g.limit (MultiSwitch g.f) g.bytes.now (simp e)
     (simp (lt-ltb g.f.count 256 (search rules)))

@@ -31,5 +31,5 @@ returns c =
     (simp (lt-ltb g.f.stone 256 (search rules), lt-ltb g.f.sphere 256 (search rules)))
     (simp (le-ltb (length q) 98 (omega arith)))
     refl
-    (simp (eq-eqb g.f.keys.len 96 c.if-keys-ne96.false, eq-eqb g.f.rest.len (length q - 98) (omega arith))))
+    (simp (eq-eqb g.f.keys.len 96 c.if-f-ne96.false, eq-eqb g.f.rest.len (length q - 98) (omega arith))))
     (rw (c.part_of.ensures, c.part_of-2.ensures) at c.packet.ensures)

@@ -21,6 +21,6 @@ returns c =
       lt-ltb g.f.ttl.0 256 (omega arith),
     ))
     refl
-    (simp (le-ltb _ _ c.if-ttl-gt60.false))
+    (simp (le-ltb _ _ c.if-f-gt60.false))
     refl)
     (rw (c.u16_bytes-d.ensures, token) at c.packet.ensures)

@@ -19,5 +19,5 @@ returns c =
     let l = part_length g.bytes.now g.f.«data» e in
     let q = data_of (body_for (Status g.f)) (Status g.f) g.bytes.now in
     writes_as
-    (simp (e, lt-ltb g.f.kind 256 (search rules), lt-ltb g.f.flags 256 (search rules), eq-eqb (length q) 11 (omega arith), le-ltb _ _ c.if-f-gt1.false, le-ltb _ _ c.if-f-gt15.false, eq-eqb _ _ c.if-part-ne9.false))
+    (simp (e, lt-ltb g.f.kind 256 (search rules), lt-ltb g.f.flags 256 (search rules), eq-eqb (length q) 11 (omega arith), le-ltb _ _ c.if-f-gt1.false, le-ltb _ _ c.if-f-gt15.false, eq-eqb _ _ c.if-f-ne9.false))
     (rw c.part_of.ensures at c.typed.ensures)

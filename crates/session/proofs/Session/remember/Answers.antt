@@ -1,12 +1,6 @@
 -- `session::Session::remember` meets its contract. Assumes nothing.
-use mathlib.Core.Path.{sym, ◌∙◌}
-use Rattle.session.specs.Session.{session_remembering}
+use Rattle.session.proofs.Kept.{session_with}
 use Rattle.session.proofs.Session.remember.Goals as goal
 
-pub returns-then-is_there : goal.returns-then-is_there
-unfolding session_remembering
-returns-then-is_there c = simp (sym c.is_there.ensures ∙ c.if-is_there.true, c.remember-next.ensures)
-
 pub returns : goal.returns
-unfolding session_remembering
-returns c = simp (sym c.is_there.ensures ∙ c.if-is_there.false)
+returns c = session_with c.args.self c.args.number c.is_there.ensures c.memory_with.ensures

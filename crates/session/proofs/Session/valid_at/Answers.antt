@@ -3,18 +3,18 @@ use mathlib.Core.Path.{◌∙◌}
 use Rattle.session.proofs.Validity.{behind, run_out, not_run_out}
 use Rattle.session.proofs.Session.valid_at.Goals as goal
 
-pub returns-then-now-since : goal.returns-then-now-since
-returns-then-now-since c = let a = c.args in behind a.self a.now c.if-now-since.true
+pub returns-then-now-self : goal.returns-then-now-self
+returns-then-now-self c = let a = c.args in behind a.self a.now c.if-now-self.true
 
-pub returns-then-passed-timeout : goal.returns-then-passed-timeout
-returns-then-passed-timeout c =
+pub returns-then-passed-self : goal.returns-then-passed-self
+returns-then-passed-self c =
     let a = c.args in
     c.is_there.ensures
-    ∙ not_run_out a.self a.now c.if-now-since.false
-    (rw c.whole_minutes-passed.ensures at c.if-passed-timeout.true)
+    ∙ not_run_out a.self a.now c.if-now-self.false
+    (rw c.whole_minutes-passed.ensures at c.if-passed-self.true)
 
 pub returns : goal.returns
 returns c =
     let a = c.args in
-    run_out a.self a.now c.if-now-since.false
-    (rw c.whole_minutes-passed.ensures at c.if-passed-timeout.false)
+    run_out a.self a.now c.if-now-self.false
+    (rw c.whole_minutes-passed.ensures at c.if-passed-self.false)
