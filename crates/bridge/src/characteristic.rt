@@ -46,9 +46,9 @@ fn admitted(packet: &[u8], room: usize, link: Link) -> Result<[u8; 16], Refusal>
 fn access_for(level: u8) -> Access
     ensures { result ≡ specs.access_for (level_of level) }
 {
-    match access::level_of(level) {
-        Some(l) => Access::Keyed(l),
-        None => Access::Unknown,
+    match Level::try_from(level) {
+        Ok(l) => Access::Keyed(l),
+        Err(_) => Access::Unknown,
     }
 }
 

@@ -56,7 +56,7 @@ pub fn seal_characteristic<C: BlockCipher>(
         return Err(Refusal::BadMessageData);
     }
     let key = keys.serving(mode, level);
-    let number = access::level_number(level);
+    let number = u8::from(level);
     envelop::<C>(
         key,
         packet_nonce,
