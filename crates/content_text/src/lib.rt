@@ -4,28 +4,12 @@
 
 mod fields;
 
-ghost use Rattle.std.specs.Prelude.{◌≤◌, length, take};
 ghost use Rattle.text.specs.Puts.{Puts};
-ghost use Rattle.text.specs.Digits.{decimals};
-ghost use Rattle.content_text.specs.Content.{part_text, part_texts, counting_parts, offset_text, rssi_text, command_text, message_text};
+ghost use Rattle.content_text.specs.Content.{part_text, offset_text, rssi_text, command_text, message_text};
 
 use control::Command;
 use message::Message;
 use wire::Part;
-
-// Eight numbers, of which the first so many count.
-#[derive(Clone, Copy)]
-struct Numbers(usize, [u64; 8]);
-
-#[derive(Clone, Copy)]
-enum Offset {
-    Absent,
-    Rssi(i8),
-}
-
-// Two parts, of which the first so many count.
-#[derive(Clone, Copy)]
-struct Parts(usize, Part, Part);
 
 // A part.
 pub fn part(out: &mut [u8], at: usize, p: Part) -> usize
@@ -35,37 +19,12 @@ pub fn part(out: &mut [u8], at: usize, p: Part) -> usize
     text::named(out, behind, b"+", p.len as u64)
 }
 
-fn put_parts(out: &mut [u8], at: usize, p: Parts) -> usize
-    ensures { Puts (part_texts (counting_parts p)) at out.old result out.new }
+fn put_offset(out: &mut [u8], at: usize, offset: Option<i8>) -> usize
+    ensures { Puts (offset_text offset) at out.old result out.new }
 {
-    let count = p.0;
-    let first = p.1;
-    let second = p.2;
-    if count == 0 {
-        return at;
-    }
-    let behind = part(out, at, first);
-    if count == 1 {
-        return behind;
-    }
-    part(out, behind, second)
-}
-
-fn put_numbers(out: &mut [u8], at: usize, n: Numbers) -> usize
-    requires { n.0 ≤ length n.1 }
-    ensures { Puts (decimals (take n.0 n.1)) at out.old result out.new }
-{
-    let count = n.0;
-    let values = n.1;
-    text::decimals(out, at, &values[..count])
-}
-
-fn put_offset(out: &mut [u8], at: usize, o: Offset) -> usize
-    ensures { Puts (offset_text o) at out.old result out.new }
-{
-    match o {
-        Offset::Absent => at,
-        Offset::Rssi(v) => put_rssi(out, at, v),
+    match offset {
+        Some(v) => put_rssi(out, at, v),
+        None => at,
     }
 }
 
@@ -83,9 +42,9 @@ fn put_rssi(out: &mut [u8], at: usize, v: i8) -> usize
 pub fn command(out: &mut [u8], at: usize, c: Command) -> usize
     ensures { Puts (command_text c) at out.old result out.new }
 {
-    let a = put_numbers(out, at, fields::command_numbers(c));
+    let a = fields::command_numbers(out, at, c);
     let b = put_offset(out, a, fields::command_offset(c));
-    put_parts(out, b, fields::command_parts(c))
+    fields::command_parts(out, b, c)
 }
 
 // A message: its data type, the numbers in its fields, its offset, its parts; behind a control message's type its command.
@@ -93,7 +52,7 @@ pub fn message(out: &mut [u8], at: usize, m: Message) -> usize
     ensures { Puts (message_text m) at out.old result out.new }
 {
     let a = text::decimals(out, at, &[fields::message_type(m)]);
-    let b = put_numbers(out, a, fields::message_numbers(m));
+    let b = fields::message_numbers(out, a, m);
     let c = put_offset(out, b, fields::message_offset(m));
-    put_parts(out, c, fields::message_parts(m))
+    fields::message_parts(out, c, m)
 }

@@ -7,7 +7,6 @@ ghost use Rattle.std.specs.Prelude.{◌+◌, ◌≤◌, ◌<◌, length, IfOk};
 
 use std::io;
 use text::reading;
-use wire::Part;
 
 // A line of a group.
 fn line(group: &[u8], k: usize) -> &[u8] {
@@ -26,7 +25,7 @@ fn agrees<R: Print>(rt: &R, got: [u8; 16], listed: &[u8]) -> io::Result<usize>
     ensures { IfOk result (λ n. n ≤ 1) }
 {
     let wanted = block(reading::field(listed, b' ', 1));
-    if check::same(&got, &wanted) {
+    if got == wanted {
         return Ok(1);
     }
     let mut digits = [b'\n'; 33];
@@ -41,11 +40,9 @@ fn agrees<R: Print>(rt: &R, got: [u8; 16], listed: &[u8]) -> io::Result<usize>
 fn passed<R: Print>(rt: &R, group: &[u8], got: &[[u8; 16]]) -> io::Result<usize>
     requires { length got.now < 1000 }
 {
-    let mut n: usize = 0;
-    let mut i: usize = 0;
-    while i < got.len() {
-        n += agrees(rt, got[i], line(group, i + 5))?;
-        i += 1;
+    let mut n = 0;
+    for (i, value) in got.iter().enumerate() {
+        n += agrees(rt, *value, line(group, i + 5))?;
     }
     Ok(n)
 }
@@ -54,11 +51,7 @@ fn passed<R: Print>(rt: &R, group: &[u8], got: &[[u8; 16]]) -> io::Result<usize>
 fn store_round(all: &mut [[u8; 16]], at: usize, round: [[u8; 16]; 5])
     requires { at + 5 ≤ length all.old }
 {
-    let mut i: usize = 0;
-    while i < 5 {
-        all[at + i] = round[i];
-        i += 1;
-    }
+    all[at..at + 5].copy_from_slice(&round);
 }
 
 // For each round the state at its start, after SubBytes, after ShiftRows and after MixColumns, and the round key.
@@ -66,8 +59,7 @@ fn store_round(all: &mut [[u8; 16]], at: usize, round: [[u8; 16]; 5])
 fn values(keys: &[[u8; 16]; 11], input: [u8; 16]) -> [[u8; 16]; 50] {
     let mut all = [input; 50];
     let mut s = aes::add_round_key(aes::to_state(input), keys[0]);
-    let mut r: usize = 0;
-    while r < 10 {
+    for r in 0..10 {
         let k = keys[r + 1];
         let boxed = aes::sub_bytes(s);
         let shifted = aes::shift_rows(boxed);
@@ -80,13 +72,10 @@ fn values(keys: &[[u8; 16]; 11], input: [u8; 16]) -> [[u8; 16]; 50] {
             k,
         ];
         store_round(&mut all, 5 * r, round);
-        let next = aes::add_round_key(mixed, k);
-        s = next;
-        r += 1;
+        s = aes::add_round_key(mixed, k);
     }
     all[48] = keys[10];
-    let output = aes::encrypt_block(keys, input);
-    all[49] = output;
+    all[49] = aes::encrypt_block(keys, input);
     all
 }
 
@@ -95,8 +84,7 @@ fn values(keys: &[[u8; 16]; 11], input: [u8; 16]) -> [[u8; 16]; 50] {
 fn inv_values(keys: &[[u8; 16]; 11], input: [u8; 16]) -> [[u8; 16]; 51] {
     let mut all = [keys[10]; 51];
     let mut s = aes::add_round_key(aes::to_state(input), keys[10]);
-    let mut r: usize = 0;
-    while r < 10 {
+    for r in 0..10 {
         let k = keys[9 - r];
         let shifted = aes::inv_shift_rows(s);
         let boxed = aes::inv_sub_bytes(shifted);
@@ -109,38 +97,30 @@ fn inv_values(keys: &[[u8; 16]; 11], input: [u8; 16]) -> [[u8; 16]; 51] {
             aes::of_state(added),
         ];
         store_round(&mut all, 5 * r + 1, round);
-        let next = aes::inv_mix_columns(added);
-        s = next;
-        r += 1;
+        s = aes::inv_mix_columns(added);
     }
-    let output = aes::decrypt_block(keys, input);
-    all[50] = output;
+    all[50] = aes::decrypt_block(keys, input);
     all
 }
 
 // Row r of the box, or of the inverse box.
 fn box_row(r: usize, back: bool) -> [u8; 16] {
     let mut row = [0u8; 16];
-    let mut c: usize = 0;
-    while c < 16 {
-        let b = (r % 16 * 16 + c) as u8;
-        row[c] = if back {
+    for (c, place) in row.iter_mut().enumerate() {
+        let b = (r % 16 * 16 + c % 16) as u8;
+        *place = if back {
             aes::inv_sub_byte(b)
         } else {
             aes::sub_byte(b)
         };
-        c += 1;
     }
     row
 }
 
 fn box_rows(back: bool) -> [[u8; 16]; 16] {
     let mut rows = [[0u8; 16]; 16];
-    let mut r: usize = 0;
-    while r < 16 {
-        let row = box_row(r, back);
-        rows[r] = row;
-        r += 1;
+    for (r, row) in rows.iter_mut().enumerate() {
+        *row = box_row(r, back);
     }
     rows
 }
@@ -194,13 +174,11 @@ fn run<R: Print>(rt: &R, group: &[u8], out: &mut [u8]) -> io::Result<usize> {
 fn main(rt: HostRuntime) -> io::Result<()> {
     let mut room = [0u8; 16384];
     let n = console::read_full(&rt, &mut room)?;
-    let groups = wire::part_of(&room, Part { start: 0, len: n });
+    let groups = console::front(&room, n);
     let mut out = [0u8; 128];
-    let mut k: usize = 0;
-    while k < reading::count(groups, b'/') {
-        let len = run(&rt, reading::field(groups, b'/', k + 1), &mut out)?;
-        rt.write_all(wire::part_of(&out, Part { start: 0, len }))?;
-        k += 1;
+    for group in groups.split(|b| *b == b'/').skip(1) {
+        let len = run(&rt, group, &mut out)?;
+        rt.write_all(console::front(&out, len))?;
     }
     Ok(())
 }

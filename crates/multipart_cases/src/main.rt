@@ -9,14 +9,11 @@
 
 ghost use Rattle.std.specs.Prelude.{◌≤◌, ◌<◌, length};
 
-use multipart::{PartAnswer, Progress};
+use console::front;
+use multipart::Progress;
 use std::io;
 use text::reading;
-use wire::{Part, Written};
-
-fn front(s: &[u8], n: usize) -> &[u8] {
-    wire::part_of(s, Part { start: 0, len: n })
-}
+use wire::Refusal;
 
 // How many bytes stand before the ones at the end that are all the same.
 fn before_run(s: &[u8]) -> usize
@@ -24,14 +21,7 @@ fn before_run(s: &[u8]) -> usize
     ensures { result < length s.now }
 {
     let last = s[s.len() - 1];
-    let mut n = s.len() - 1;
-    while 0 < n {
-        if s[n - 1] != last {
-            return n;
-        }
-        n -= 1;
-    }
-    n
+    s.iter().rposition(|b| *b != last).map_or(0, |k| k + 1)
 }
 
 // Bytes as ` 0102+ee*498`: those before the ones at the end that are all the same, and these with their number.
@@ -52,29 +42,29 @@ fn listed(out: &mut [u8], at: usize, s: &[u8]) -> usize {
 
 // One byte and how often it stands, as ee*498.
 fn run(out: &mut [u8], at: usize, byte: u8, n: usize) -> usize {
-    let bytes = [byte];
-    let behind = text::hex(out, at, &bytes);
+    let behind = text::hex(out, at, &[byte]);
     text::named(out, behind, b"*", n as u64)
 }
 
-fn answer(out: &mut [u8], at: usize, a: PartAnswer, store: &[u8; 500]) -> usize {
-    match a {
-        PartAnswer::More => text::put(out, at, b" ."),
-        PartAnswer::Message(n) => {
+fn answer(
+    out: &mut [u8],
+    at: usize,
+    given: Result<Option<usize>, Refusal>,
+    store: &[u8; 500],
+) -> usize {
+    match given {
+        Ok(None) => text::put(out, at, b" ."),
+        Ok(Some(n)) => {
             let behind = text::named(out, at, b" message ", n as u64);
             listed(out, behind, multipart::message(store, n))
         }
-        PartAnswer::Refused(n) => text::named(out, at, b" refused ", n as u64),
+        Err(refusal) => text::named(out, at, b" refused ", refusal.number() as u64),
     }
-}
-
-fn flag(b: bool) -> u64 {
-    if b { 1 } else { 0 }
 }
 
 // `; record PARTS BYTES DISCARDING; store` and the store's bytes.
 fn record(out: &mut [u8], at: usize, p: Progress, store: &[u8; 500]) -> usize {
-    let numbers = [p.parts as u64, p.bytes as u64, flag(p.discarding)];
+    let numbers = [p.parts as u64, p.bytes as u64, p.discarding as u64];
     let name = text::put(out, at, b"; record");
     let behind = text::decimals(out, name, &numbers);
     let named = text::put(out, behind, b"; store");
@@ -102,43 +92,23 @@ fn assemble(out: &mut [u8], at: usize, line: &[u8]) -> usize {
     let mut part = [0u8; 600];
     let mut progress = named_progress(line);
     let mut behind = at;
-    let n = reading::count(line, b'|');
-    let mut k: usize = 3;
-    while k < n {
-        k += 1;
-        let len = reading::bytes(&mut part, 0, reading::field(line, b'|', k));
-        let t = multipart::take_part(progress, &mut store, front(&part, len));
-        let after = t.progress;
-        progress = after;
-        let given = t.answer;
-        behind = answer(out, behind, given, &store);
+    for field in line.split(|b| *b == b'|').skip(4) {
+        let len = reading::bytes(&mut part, 0, field);
+        let taken = multipart::take_part(progress, &mut store, front(&part, len));
+        progress = taken.progress;
+        behind = answer(out, behind, taken.answer, &store);
     }
     record(out, behind, progress, &store)
 }
 
-// How many bytes the next part has, of so many that are left.
-fn part_len(size: usize, left: usize) -> usize
-    requires { 0 < left }
-    ensures { (0 < result) × (result ≤ left) }
-{
-    if size < left { size + 1 } else { left }
-}
-
 // Parts that stand one behind the other, to a fresh record: the answers.
 fn assembled(out: &mut [u8], at: usize, size: usize, image: &[u8]) -> usize {
-    let mut a = multipart::fresh();
+    let mut assembler = multipart::fresh();
     let mut behind = text::put(out, at, b"; assembled");
-    let mut i: usize = 0;
-    while i < image.len() {
-        let len = part_len(size, image.len() - i);
-        let end = i + len;
-        let t = a.take_part(wire::part_of(image, Part { start: i, len }));
-        let next = t.assembler;
-        a = next;
-        let store = a.store;
-        let given = t.answer;
-        behind = answer(out, behind, given, &store);
-        i = end;
+    for part in image.chunks(size.saturating_add(1)) {
+        let step = assembler.take_part(part);
+        assembler = step.assembler;
+        behind = answer(out, behind, step.answer, &assembler.store);
     }
     behind
 }
@@ -152,13 +122,13 @@ fn room(out: &mut [u8], at: usize, s: &[u8]) -> usize {
 // What the cutter answers, all of its room afterwards, and what the assembler gives of what it wrote.
 fn cut(out: &mut [u8], at: usize, size: usize, message: &[u8], lent: &mut [u8]) -> usize {
     match multipart::cut(message, size, lent) {
-        Written::Wrote(n) => {
+        Ok(n) => {
             let behind = text::named(out, at, b" wrote ", n as u64);
             let named = room(out, behind, lent);
             assembled(out, named, size, front(lent, n))
         }
-        Written::Refused(n) => {
-            let behind = text::named(out, at, b" refused ", n as u64);
+        Err(refusal) => {
+            let behind = text::named(out, at, b" refused ", refusal.number() as u64);
             room(out, behind, lent)
         }
     }
@@ -199,17 +169,5 @@ fn case<R: Print>(rt: &R, line: &[u8]) -> io::Result<()> {
 }
 
 fn main(rt: HostRuntime) -> io::Result<()> {
-    let mut buffer = console::large_buffer();
-    let n = console::read_full(&rt, &mut buffer)?;
-    cases(&rt, &buffer[..n])
-}
-
-fn cases<R: Print>(rt: &R, s: &[u8]) -> io::Result<()> {
-    let n = reading::count(s, b'\n');
-    let mut k: usize = 0;
-    while k < n {
-        case(rt, reading::field(s, b'\n', k))?;
-        k += 1;
-    }
-    Ok(())
+    console::for_each_line(&rt, &mut console::large_buffer(), |line| case(&rt, line))
 }

@@ -8,30 +8,19 @@ mod writers;
 
 ghost use Rattle.std.specs.Prelude.{◌≡◌, length};
 
+use console::front;
 use std::io;
 use text::reading;
-use wire::Part;
+use wire::Refusal;
 
 fn main(rt: HostRuntime) -> io::Result<()> {
-    let mut buffer = console::large_buffer();
-    let n = console::read_full(&rt, &mut buffer)?;
-    lines(&rt, &buffer[..n])
-}
-
-fn lines<R: Print>(rt: &R, s: &[u8]) -> io::Result<()> {
-    let n = reading::count(s, b'\n');
-    let mut k: usize = 0;
-    while k < n {
-        case(rt, reading::field(s, b'\n', k))?;
-        k += 1;
-    }
-    Ok(())
+    console::for_each_line(&rt, &mut console::large_buffer(), |line| case(&rt, line))
 }
 
 fn case<R: Print>(rt: &R, line: &[u8]) -> io::Result<()> {
     let mut room = full();
     let n = reading::bytes(&mut room, 0, reading::field(line, b'|', 3));
-    print(rt, line, wire::part_of(&room, Part { start: 0, len: n }))
+    print(rt, line, front(&room, n))
 }
 
 fn print<R: Print>(rt: &R, line: &[u8], bytes: &[u8]) -> io::Result<()> {
@@ -39,7 +28,7 @@ fn print<R: Print>(rt: &R, line: &[u8], bytes: &[u8]) -> io::Result<()> {
     let a = text::put(&mut out, 0, reading::field(line, b'|', 0));
     let b = answer(&mut out, a, line, bytes);
     let n = text::put(&mut out, b, b"\n");
-    rt.write_all(wire::part_of(&out, Part { start: 0, len: n }))
+    rt.write_all(front(&out, n))
 }
 
 fn answer(out: &mut [u8], at: usize, line: &[u8], bytes: &[u8]) -> usize {
@@ -62,6 +51,6 @@ fn full() -> [u8; 65548]
     [0xEE; 65548]
 }
 
-fn refused(out: &mut [u8], at: usize, n: u8) -> usize {
-    text::named(out, at, b" refused ", n as u64)
+fn refused(out: &mut [u8], at: usize, refusal: Refusal) -> usize {
+    text::named(out, at, b" refused ", refusal.number() as u64)
 }

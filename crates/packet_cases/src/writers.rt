@@ -1,6 +1,7 @@
 // The writers. A case gives the numbers and the parts as a content's text has them, but an RSSI offset signed and in its byte's place, a mask of rooms in base
 // 16, high digit first, and a control message's command behind a colon; the bytes lent; the length of the room, and of a long one the place to look at: 8
 // bytes before the image's end.
+use console::front;
 use control::{
     Command, DeviceHeartbeatFields, GetStateFields, IbeaconFields, MultiSwitchFields,
     SetStateFields, SetupFields, TrackedDeviceFields,
@@ -9,7 +10,7 @@ use message::{HubReplyFields, Message, Nonce, SessionNonceFields, StatusFields};
 use result::{PresenceResult, ResultPacket, RoomMasks, UptimeResult};
 use text::reading;
 use units::{Minutes, Seconds};
-use wire::{Part, Written};
+use wire::{Part, Refusal};
 
 fn number(v: &[u8], k: usize) -> u64 {
     reading::number(reading::field(v, b' ', k))
@@ -180,7 +181,7 @@ fn message(v: &[u8], p: &[u8]) -> Message {
     }
 }
 
-fn write(bytes: &[u8], line: &[u8], room: &mut [u8]) -> Written {
+fn write(bytes: &[u8], line: &[u8], room: &mut [u8]) -> Result<usize, Refusal> {
     let v = reading::field(line, b'|', 2);
     let p = reading::field(line, b'|', 4);
     match wire::byte_at(reading::field(line, b'|', 1), 1) {
@@ -192,32 +193,22 @@ fn write(bytes: &[u8], line: &[u8], room: &mut [u8]) -> Written {
     }
 }
 
-// In the first bytes of a room.
-fn write_in_front(bytes: &[u8], line: &[u8], room: &mut [u8], n: usize) -> Written {
-    if room.len() < n {
-        return Written::Refused(0);
-    }
-    write(bytes, line, &mut room[..n])
-}
-
 // The writer's answer, and what stands in the room, which was full of EE.
 pub fn written(out: &mut [u8], at: usize, bytes: &[u8], line: &[u8]) -> usize {
     let v = reading::field(line, b'|', 5);
     let n = number(v, 0) as usize;
     let mut room = crate::full();
-    let a = told(out, at, write_in_front(bytes, line, &mut room, n));
-    contents(
-        out,
-        a,
-        wire::part_of(&room, Part { start: 0, len: n }),
-        number(v, 1) as usize,
-    )
+    let a = match room.get_mut(..n) {
+        Some(lent) => told(out, at, write(bytes, line, lent)),
+        None => text::put(out, at, b" refused 0"),
+    };
+    contents(out, a, front(&room, n), number(v, 1) as usize)
 }
 
-fn told(out: &mut [u8], at: usize, w: Written) -> usize {
-    match w {
-        Written::Wrote(n) => text::named(out, at, b" wrote ", n as u64),
-        Written::Refused(n) => crate::refused(out, at, n),
+fn told(out: &mut [u8], at: usize, written: Result<usize, Refusal>) -> usize {
+    match written {
+        Ok(n) => text::named(out, at, b" wrote ", n as u64),
+        Err(refusal) => crate::refused(out, at, refusal),
     }
 }
 
@@ -227,17 +218,11 @@ fn contents(out: &mut [u8], at: usize, room: &[u8], place: usize) -> usize {
     if room.len() <= 600 {
         return text::hex(out, a, room);
     }
-    let b = text::hex(out, a, wire::part_of(room, Part { start: 0, len: 16 }));
+    let b = text::hex(out, a, front(room, 16));
     let c = text::put(out, b, b"..");
-    text::hex(
-        out,
-        c,
-        wire::part_of(
-            room,
-            Part {
-                start: place,
-                len: 12,
-            },
-        ),
-    )
+    let far = Part {
+        start: place,
+        len: 12,
+    };
+    text::hex(out, c, wire::part_of(room, far))
 }

@@ -5,12 +5,13 @@
 
 ghost use Rattle.std.specs.Prelude.{◌≡◌, ◌≤◌, ◌<◌, length};
 
-use access::{Level, LevelRead, Mode};
+use access::{Level, Mode};
 use aes::Small;
-use session::{Key, Keys};
+use console::front;
+use session::Keys;
 use std::io;
 use text::reading;
-use wire::{Part, Written};
+use wire::Refusal;
 
 const SESSION_NONCE: [u8; 5] = [0x51, 0x52, 0x53, 0x54, 0x55];
 
@@ -26,47 +27,47 @@ struct Case {
     keys: Keys,
 }
 
-fn front(s: &[u8], n: usize) -> &[u8] {
-    wire::part_of(s, Part { start: 0, len: n })
-}
-
 fn mode_of(s: &[u8]) -> Mode {
-    if check::same(s, b"setup") {
-        return Mode::Setup;
+    match s {
+        b"setup" => Mode::Setup,
+        _ => Mode::Normal,
     }
-    Mode::Normal
 }
 
 fn level_of(s: &[u8]) -> Level {
-    match access::level_of((reading::number(s) % 256) as u8) {
-        LevelRead::Known(level) => level,
-        LevelRead::Unknown => Level::Admin,
+    access::level_of((reading::number(s) % 256) as u8).unwrap_or(Level::Admin)
+}
+
+// A key, where its letter is there.
+fn key(letters: &[u8], k: usize, bytes: &[u8; 16]) -> Option<[u8; 16]> {
+    if wire::byte_at(letters, k) == b'-' {
+        return None;
     }
+    Some(*bytes)
 }
 
-// Whether the key with a letter is held.
-fn held(letters: &[u8], k: usize) -> bool {
-    wire::byte_at(letters, k) != b'-'
-}
-
-fn keys_of(letters: &[u8]) -> Keys {
+fn keys_of(s: &[u8]) -> Keys {
     Keys {
-        admin: Key {
-            held: held(letters, 0),
-            bytes: *b"\x10\x11\x12\x13\x14\x15\x16\x17\x18\x19\x1a\x1b\x1c\x1d\x1e\x1f",
-        },
-        member: Key {
-            held: held(letters, 1),
-            bytes: *b"\x30\x31\x32\x33\x34\x35\x36\x37\x38\x39\x3a\x3b\x3c\x3d\x3e\x3f",
-        },
-        basic: Key {
-            held: held(letters, 2),
-            bytes: *b"\x50\x51\x52\x53\x54\x55\x56\x57\x58\x59\x5a\x5b\x5c\x5d\x5e\x5f",
-        },
-        setup: Key {
-            held: held(letters, 3),
-            bytes: *b"\x70\x71\x72\x73\x74\x75\x76\x77\x78\x79\x7a\x7b\x7c\x7d\x7e\x7f",
-        },
+        admin: key(
+            s,
+            0,
+            b"\x10\x11\x12\x13\x14\x15\x16\x17\x18\x19\x1a\x1b\x1c\x1d\x1e\x1f",
+        ),
+        member: key(
+            s,
+            1,
+            b"\x30\x31\x32\x33\x34\x35\x36\x37\x38\x39\x3a\x3b\x3c\x3d\x3e\x3f",
+        ),
+        basic: key(
+            s,
+            2,
+            b"\x50\x51\x52\x53\x54\x55\x56\x57\x58\x59\x5a\x5b\x5c\x5d\x5e\x5f",
+        ),
+        setup: key(
+            s,
+            3,
+            b"\x70\x71\x72\x73\x74\x75\x76\x77\x78\x79\x7a\x7b\x7c\x7d\x7e\x7f",
+        ),
     }
 }
 
@@ -76,7 +77,7 @@ fn case_of(line: &[u8]) -> Case
     let size = reading::number(reading::field(line, b' ', 3)) % 1000;
     let room = reading::number(reading::field(line, b' ', 4)) % 513;
     Case {
-        packet: check::same(reading::field(line, b' ', 0), b"packet"),
+        packet: matches!(reading::field(line, b' ', 0), b"packet"),
         mode: mode_of(reading::field(line, b' ', 1)),
         level: level_of(reading::field(line, b' ', 2)),
         size: size as usize,
@@ -92,33 +93,24 @@ fn filled(c: Case) -> [u8; 493]
 {
     let size = c.size;
     let mut s = [0u8; 493];
-    let mut i: usize = 0;
-    while i < 493 {
-        s[i] = ((7 * i + size) % 256) as u8;
-        i += 1;
+    for (i, b) in s.iter_mut().enumerate() {
+        *b = ((7 * (i % 256) + size) % 256) as u8;
     }
-    if !c.packet {
-        return s;
+    if c.packet && 5 <= size {
+        s[3] = ((size - 5) % 256) as u8;
+        s[4] = ((size - 5) / 256) as u8;
     }
-    if size < 5 {
-        return s;
-    }
-    s[3] = ((size - 5) % 256) as u8;
-    s[4] = ((size - 5) / 256) as u8;
     s
 }
 
-fn seal(c: Case, content: &[u8], out: &mut [u8]) -> Written {
+fn seal(c: Case, content: &[u8], out: &mut [u8]) -> Result<usize, Refusal> {
     let n = content.len();
     let nonce = [(n % 256) as u8, (n / 256 % 256) as u8, 0xA5];
-    let mode = c.mode;
-    let level = c.level;
-    let keys = c.keys;
     if c.packet {
         return envelope::seal_characteristic::<Small>(
-            keys,
-            mode,
-            level,
+            c.keys,
+            c.mode,
+            c.level,
             nonce,
             SESSION_NONCE,
             VALIDATION,
@@ -126,67 +118,50 @@ fn seal(c: Case, content: &[u8], out: &mut [u8]) -> Written {
             out,
         );
     }
-    envelope::seal::<Small>(keys, mode, nonce, SESSION_NONCE, content, out)
+    envelope::seal::<Small>(c.keys, c.mode, nonce, SESSION_NONCE, content, out)
 }
 
-// The blocks of an image deciphered, how many bytes: none where it is refused.
-fn deciphered(c: Case, image: &[u8], work: &mut [u8]) -> usize {
-    if envelope::judge_length(image) != 0 {
-        return 0;
-    }
-    if envelope::judge_room(image, work.len()) != 0 {
-        return 0;
-    }
-    let mode = c.mode;
-    let level = c.level;
+// The blocks of an image deciphered, how many bytes.
+fn deciphered(c: Case, image: &[u8], work: &mut [u8]) -> Result<usize, Refusal> {
+    envelope::judge_length(image)?;
+    envelope::judge_room(image, work.len())?;
     let keys = c.keys;
-    let key = keys.serving(mode, level);
-    let bytes = key.bytes;
-    let Written::Wrote(len) = envelope::decipher::<Small>(bytes, SESSION_NONCE, image, work) else {
-        return 0;
-    };
-    len
+    let key = keys.serving(c.mode, c.level).ok_or(Refusal::NoKey)?;
+    envelope::decipher::<Small>(key, SESSION_NONCE, image, work)
 }
 
 // Whether an image is opened, and holds the content.
 fn opens(c: Case, image: &[u8], content: &[u8]) -> bool {
     let mut work = [0xFFu8; 496];
-    let len = deciphered(c, image, &mut work);
+    let len = deciphered(c, image, &mut work).unwrap_or(0);
     let plain = front(&work, len);
     if c.packet {
-        if envelope::judge_characteristic(VALIDATION, plain) != 0 {
-            return false;
-        }
-        return check::same(envelope::packet_in(plain), content);
+        return envelope::judge_characteristic(VALIDATION, plain).is_ok()
+            && envelope::packet_in(plain) == content;
     }
-    if envelope::judge_text(plain) != 0 {
-        return false;
-    }
-    check::same(envelope::message_in(plain), content)
+    envelope::judge_text(plain).is_ok() && envelope::message_in(plain) == content
 }
 
-fn answer(out: &mut [u8], at: usize, w: Written) -> usize {
-    match w {
-        Written::Wrote(len) => text::named(out, at, b": wrote ", len as u64),
-        Written::Refused(number) => text::named(out, at, b": refused ", number as u64),
+fn answer(out: &mut [u8], at: usize, written: Result<usize, Refusal>) -> usize {
+    match written {
+        Ok(len) => text::named(out, at, b": wrote ", len as u64),
+        Err(refusal) => text::named(out, at, b": refused ", refusal.number() as u64),
     }
 }
 
 // `NAME LENGTH: ` and the answer, then all of the room.
-fn show(out: &mut [u8], name: &[u8], n: usize, room: &[u8], w: Written) -> usize {
+fn show(
+    out: &mut [u8],
+    name: &[u8],
+    n: usize,
+    room: &[u8],
+    written: Result<usize, Refusal>,
+) -> usize {
     let a = text::put(out, 0, name);
     let b = text::named(out, a, b" ", n as u64);
-    let c = answer(out, b, w);
+    let c = answer(out, b, written);
     let d = text::put(out, c, b", room ");
     text::hex(out, d, room)
-}
-
-// The image's length, 0 where there is none.
-fn length_of(w: Written) -> usize {
-    match w {
-        Written::Wrote(len) => len,
-        Written::Refused(_) => 0,
-    }
 }
 
 fn run(line: &[u8], image: &mut [u8], out: &mut [u8]) -> usize
@@ -195,32 +170,28 @@ fn run(line: &[u8], image: &mut [u8], out: &mut [u8]) -> usize
     let c = case_of(line);
     let bytes = filled(c);
     let content = front(&bytes, c.size);
-    let room = c.room;
-    let w = seal(c, content, &mut image[..room]);
+    let written = seal(c, content, &mut image[..c.room]);
     let at = show(
         out,
         reading::field(line, b' ', 0),
         c.size,
-        front(image, room),
-        w,
+        front(image, c.room),
+        written,
     );
-    if opens(c, front(image, length_of(w)), content) {
+    if opens(c, front(image, written.unwrap_or(0)), content) {
         return text::put(out, at, b", opened\n");
     }
     text::put(out, at, b"\n")
 }
 
-fn main(rt: HostRuntime) -> io::Result<()> {
-    let mut input = [0u8; 2048];
-    let n = console::read_full(&rt, &mut input)?;
-    let cases = front(&input, n);
+// One line of the output.
+fn print<R: Print>(rt: &R, line: &[u8]) -> io::Result<()> {
+    let mut image = [0xEEu8; 512];
     let mut out = [0u8; 2048];
-    let mut k: usize = 0;
-    while k < reading::count(cases, b'\n') {
-        let mut image = [0xEEu8; 512];
-        let len = run(reading::field(cases, b'\n', k), &mut image, &mut out);
-        rt.write_all(front(&out, len))?;
-        k += 1;
-    }
-    Ok(())
+    let len = run(line, &mut image, &mut out);
+    rt.write_all(front(&out, len))
+}
+
+fn main(rt: HostRuntime) -> io::Result<()> {
+    console::for_each_line(&rt, &mut [0u8; 2048], |line| print(&rt, line))
 }

@@ -8,15 +8,12 @@
 ghost use Rattle.std.specs.Prelude.{◌≤◌, length};
 
 use access::Mode;
-use session::{Connection, Key, Keys};
-use session_data::{DataAnswer, DataRead};
+use console::front;
+use session::{Connection, Keys};
+use session_data::DataRead;
 use std::io;
 use text::reading;
-use wire::{Part, Written};
-
-fn front(s: &[u8], n: usize) -> &[u8] {
-    wire::part_of(s, Part { start: 0, len: n })
-}
+use wire::Refusal;
 
 // A field of a line.
 fn field(line: &[u8], k: usize) -> &[u8] {
@@ -24,20 +21,20 @@ fn field(line: &[u8], k: usize) -> &[u8] {
 }
 
 fn mode_of(line: &[u8]) -> Mode {
-    if check::same(field(line, 2), b"setup") {
-        return Mode::Setup;
+    match field(line, 2) {
+        b"setup" => Mode::Setup,
+        _ => Mode::Normal,
     }
-    Mode::Normal
 }
 
-// A key by its bytes, and whether its letter is there.
-fn key(letters: &[u8], k: usize, listed: &[u8]) -> Key {
+// A key by its bytes, where its letter is there.
+fn key(letters: &[u8], k: usize, listed: &[u8]) -> Option<[u8; 16]> {
+    if wire::byte_at(letters, k) == b'-' {
+        return None;
+    }
     let mut bytes = [0u8; 16];
     reading::bytes(&mut bytes, 0, listed);
-    Key {
-        held: wire::byte_at(letters, k) != b'-',
-        bytes,
-    }
+    Some(bytes)
 }
 
 fn keys_of(line: &[u8]) -> Keys {
@@ -57,17 +54,17 @@ fn connection_of(line: &[u8]) -> Connection {
     reading::bytes(&mut nonce, 0, field(line, 5));
     reading::bytes(&mut validation, 0, reading::field(field(line, 6), b' ', 0));
     Connection {
-        held: check::same(field(line, 4), b"held"),
+        held: matches!(field(line, 4), b"held"),
         nonce,
         validation,
         memory: session_text::memory_in(field(line, 6), 1),
     }
 }
 
-fn show_answer(out: &mut [u8], at: usize, answer: DataAnswer) -> usize {
+fn show_answer(out: &mut [u8], at: usize, answer: Result<(), Refusal>) -> usize {
     match answer {
-        DataAnswer::Accepted => text::put(out, at, b"accepted"),
-        DataAnswer::Refused(number) => text::named(out, at, b"refused ", number as u64),
+        Ok(()) => text::put(out, at, b"accepted"),
+        Err(refusal) => text::named(out, at, b"refused ", refusal.number() as u64),
     }
 }
 
@@ -80,17 +77,13 @@ fn show_held(out: &mut [u8], at: usize, held: bool) -> usize {
 
 // The answer, and the connection after it.
 fn show_read(out: &mut [u8], at: usize, read: DataRead) -> usize {
-    let answer = read.answer;
     let after = read.connection;
-    let nonce = after.nonce;
-    let validation = after.validation;
-    let memory = after.memory;
-    let a = show_answer(out, at, answer);
+    let a = show_answer(out, at, read.answer);
     let b = show_held(out, a, after.held);
-    let c = text::hex(out, b, &nonce);
+    let c = text::hex(out, b, &after.nonce);
     let d = text::put(out, c, b" ");
-    let e = text::hex(out, d, &validation);
-    session_text::memory(out, e, memory)
+    let e = text::hex(out, d, &after.validation);
+    session_text::memory(out, e, after.memory)
 }
 
 fn read_case(line: &[u8], out: &mut [u8], at: usize) -> usize {
@@ -124,10 +117,19 @@ fn show_room(out: &mut [u8], at: usize, name: &[u8], n: usize, room: &[u8]) -> u
     text::hex(out, b, room)
 }
 
-fn show_written(line: &[u8], written: Written, room: &[u8], out: &mut [u8], at: usize) -> usize {
+fn show_written(
+    line: &[u8],
+    written: Result<usize, Refusal>,
+    room: &[u8],
+    out: &mut [u8],
+    at: usize,
+) -> usize {
     match written {
-        Written::Refused(number) => show_room(out, at, b"refused ", number as usize, room),
-        Written::Wrote(len) => {
+        Err(refusal) => {
+            let number = refusal.number();
+            show_room(out, at, b"refused ", number as usize, room)
+        }
+        Ok(len) => {
             let a = show_room(out, at, b"wrote ", len, room);
             read_back(line, front(room, len), out, a)
         }
@@ -146,13 +148,11 @@ fn write_case(line: &[u8], room: &mut [u8], out: &mut [u8], at: usize) -> usize
 {
     let n = lent(line);
     let c = connection_of(line);
-    let nonce = c.nonce;
-    let validation = c.validation;
     let written = session_data::write_session_data(
         keys_of(line),
         mode_of(line),
-        nonce,
-        validation,
+        c.nonce,
+        c.validation,
         &mut room[..n],
     );
     show_written(line, written, front(room, n), out, at)
@@ -161,25 +161,20 @@ fn write_case(line: &[u8], room: &mut [u8], out: &mut [u8], at: usize) -> usize
 fn run(line: &[u8], out: &mut [u8]) -> usize {
     let a = text::put(out, 0, field(line, 1));
     let b = text::put(out, a, b": ");
-    if check::same(field(line, 0), b"read") {
-        let c = read_case(line, out, b);
-        return text::put(out, c, b"\n");
-    }
-    let mut room = [0xEEu8; 64];
-    let c = write_case(line, &mut room, out, b);
+    let c = match field(line, 0) {
+        b"read" => read_case(line, out, b),
+        _ => write_case(line, &mut [0xEEu8; 64], out, b),
+    };
     text::put(out, c, b"\n")
 }
 
-fn main(rt: HostRuntime) -> io::Result<()> {
-    let mut input = [0u8; 65536];
-    let n = console::read_full(&rt, &mut input)?;
-    let cases = front(&input, n);
+// One line of the output.
+fn case<R: Print>(rt: &R, line: &[u8]) -> io::Result<()> {
     let mut out = [0u8; 512];
-    let mut k: usize = 0;
-    while k < reading::count(cases, b'\n') {
-        let len = run(reading::field(cases, b'\n', k), &mut out);
-        rt.write_all(front(&out, len))?;
-        k += 1;
-    }
-    Ok(())
+    let len = run(line, &mut out);
+    rt.write_all(front(&out, len))
+}
+
+fn main(rt: HostRuntime) -> io::Result<()> {
+    console::for_each_line(&rt, &mut console::large_buffer(), |line| case(&rt, line))
 }

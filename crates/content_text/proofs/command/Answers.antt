@@ -3,4 +3,4 @@ use Rattle.content_text.proofs.Content.{behind_numbers}
 use Rattle.content_text.proofs.command.Goals as goal
 
 pub returns : goal.returns
-returns c = behind_numbers c.command_numbers.ensures c.command_offset.ensures c.command_parts.ensures c.put_numbers-a.ensures c.put_offset-b.ensures c.put_parts.ensures
+returns c = behind_numbers _ _ c.command_offset.ensures c.command_numbers-a.ensures c.put_offset-b.ensures c.command_parts.ensures

@@ -1,9 +1,0 @@
--- `lines` is safe, and ends. Assumes nothing.
-use Prim.Native.Nat.{◌-◌}
-use Rattle.packet_cases.proofs.lines.Given as goal
-
-abbrev pub invariant-loop-k : goal.invariant-loop-k
-invariant-loop-k g l = Unit {0}
-
-abbrev pub decreases-loop-k : goal.decreases-loop-k
-decreases-loop-k g l = l.n - l.k
