@@ -34,4 +34,4 @@ number_read None = []
 abbrev pub Reads : ℕ → Result Level UnknownLevel → Type 0
 Reads n r =
     (number_read (result_ok r) ≡ pick (is_level n) (n ∷ []) [])
-  × MatchResult r (λ level. level_of n ≡ Some level) (λ e. (level_of n ≡ None) × (e.0 ≡ n))
+    × MatchResult r (λ level. level_of n ≡ Some level) (λ e. (level_of n ≡ None) × (e.0 ≡ n))

@@ -13,7 +13,7 @@ ghost use Rattle.bridge.specs.Reply.{characteristic_refused};
 use crate::blocks::{clear_refused, judge_blocks};
 use crate::replies::characteristic_refused;
 use crate::{Link, OpenedCommand, Place, Refused};
-use access::Access;
+use access::{Access, Level};
 use aes::block_cipher::BlockCipher;
 use control::Command;
 use wire::{Part, Refusal};

@@ -11,4 +11,4 @@ unfolding characteristic_image characteristic_text
 returns g c =
     let a = c.args in
     sealed_as a.packet_nonce a.session_nonce a.out.now (outside 5 492 (length a.packet.now)) (sym c.outside.ensures ∙ c.if-outside.false)
-    c.serving-key.ensures c.level_number-number.ensures refl c.envelop.ensures
+    c.serving-key.ensures c.from-number.ensures refl c.envelop.ensures
