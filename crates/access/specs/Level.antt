@@ -1,8 +1,11 @@
 -- User levels and their numbers ('Characteristic packet').
-use Rattle.std.specs.Prelude.{ℕ, Bool, ◌||◌, List, [], ◌∷◌, eqb, Option, Some, None}
+use Rattle.std.specs.Prelude.{◌≡◌, ℕ, Bool, ◌||◌, List, [], ◌∷◌, eqb, Option, Some, None, Result, MatchResult}
+use Rattle.std.specs.Result.{result_ok}
+use Rattle.wire.specs.Choice.{pick}
 use Rattle.wire.specs.Lookup.{lookup}
 use Rattle.access.specs.declared.Level.{Level}
 use Rattle.access.specs.declared.Level.TheVariants.{Admin, Member, Basic, Setup}
+use Rattle.access.specs.declared.UnknownLevel.{UnknownLevel}
 
 -- 0 admin, 1 member, 2 basic, 100 setup
 abbrev pub level_number : Level → ℕ
@@ -26,3 +29,9 @@ is_level n = eqb n 0 || (eqb n 1 || (eqb n 2 || eqb n 100))
 abbrev pub number_read : Option Level → List ℕ
 number_read (Some l) = level_number l ∷ []
 number_read None = []
+
+-- a number is read as the level that has it, or else as an error that holds it
+abbrev pub Reads : ℕ → Result Level UnknownLevel → Type 0
+Reads n r =
+    (number_read (result_ok r) ≡ pick (is_level n) (n ∷ []) [])
+    × MatchResult r (λ level. level_of n ≡ Some level) (λ e. (level_of n ≡ None) × (e.0 ≡ n))

@@ -1,9 +1,8 @@
 // Modes, user levels, and how a packet came.
 #![tactic(auto)]
 
-ghost use Rattle.std.specs.Prelude.{◌≡◌, ◌∷◌, []};
-ghost use Rattle.wire.specs.Choice.{pick};
-ghost use Rattle.access.specs.Level.{level_number, level_of, is_level, number_read};
+ghost use Rattle.std.specs.Prelude.{◌≡◌};
+ghost use Rattle.access.specs.Level.{level_number, Reads};
 
 #[derive(Clone, Copy)]
 pub enum Mode {
@@ -28,27 +27,37 @@ pub enum Access {
     Unknown,
 }
 
+// A number that no level has.
+#[derive(Clone, Copy, Debug, PartialEq, Eq)]
+pub struct UnknownLevel(pub u8);
+
 // A level's number.
-pub fn level_number(level: Level) -> u8
-    ensures { result ≡ level_number level }
-{
-    match level {
-        Level::Admin => 0,
-        Level::Member => 1,
-        Level::Basic => 2,
-        Level::Setup => 100,
+impl From<Level> for u8 {
+    ghost from_gives = { λ level number. number ≡ level_number level };
+
+    fn from(level: Level) -> u8 {
+        match level {
+            Level::Admin => 0,
+            Level::Member => 1,
+            Level::Basic => 2,
+            Level::Setup => 100,
+        }
     }
 }
 
 // The level that has a number.
-pub fn level_of(number: u8) -> Option<Level>
-    ensures { (number_read result ≡ pick (is_level number) (number ∷ []) []) × (result ≡ level_of number) }
-{
-    match number {
-        0 => Some(Level::Admin),
-        1 => Some(Level::Member),
-        2 => Some(Level::Basic),
-        100 => Some(Level::Setup),
-        _ => None,
+impl TryFrom<u8> for Level {
+    type Error = UnknownLevel;
+
+    ghost try_from_gives = { Reads };
+
+    fn try_from(number: u8) -> Result<Self, UnknownLevel> {
+        match number {
+            0 => Ok(Level::Admin),
+            1 => Ok(Level::Member),
+            2 => Ok(Level::Basic),
+            100 => Ok(Level::Setup),
+            _ => Err(UnknownLevel(number)),
+        }
     }
 }

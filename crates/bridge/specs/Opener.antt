@@ -90,7 +90,7 @@ answer_of g room major wrapper p =
 abbrev pub session_by : Context → Message → Session
 session_by g (Hello flags) = g.session
 session_by g (SessionNonce f) =
-    with_nonce g.session (f.nonce.0 ∷ f.nonce.1 ∷ f.nonce.2 ∷ f.nonce.3 ∷ f.nonce.4 ∷ []) f.timeout g.time
+    with_nonce g.session f.nonce f.timeout g.time
 session_by g (Heartbeat t) = g.session
 session_by g (Status f) = g.session
 session_by g GetMac = g.session

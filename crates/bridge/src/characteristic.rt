@@ -13,7 +13,7 @@ ghost use Rattle.bridge.specs.Reply.{characteristic_refused};
 use crate::blocks::{clear_refused, judge_blocks};
 use crate::replies::characteristic_refused;
 use crate::{Link, OpenedCommand, Place, Refused};
-use access::Access;
+use access::{Access, Level};
 use aes::block_cipher::BlockCipher;
 use control::Command;
 use wire::{Part, Refusal};
@@ -45,9 +45,9 @@ fn admitted(packet: &[u8], room: usize, link: Link) -> Result<[u8; 16], Refusal>
 fn access_for(level: u8) -> Access
     ensures { result ≡ specs.access_for (level_of level) }
 {
-    match access::level_of(level) {
-        Some(l) => Access::Keyed(l),
-        None => Access::Unknown,
+    match Level::try_from(level) {
+        Ok(l) => Access::Keyed(l),
+        Err(_) => Access::Unknown,
     }
 }
 

@@ -24,10 +24,7 @@ fn session_by(context: Context, m: Message) -> Session
 {
     let session = context.session;
     match m {
-        Message::SessionNonce(f) => {
-            let n = f.nonce;
-            session.with_nonce([n.0, n.1, n.2, n.3, n.4], f.timeout, context.time)
-        }
+        Message::SessionNonce(f) => session.with_nonce(f.nonce, f.timeout, context.time),
         _ => session,
     }
 }

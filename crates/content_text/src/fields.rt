@@ -118,16 +118,8 @@ pub fn message_numbers(out: &mut [u8], at: usize, m: Message) -> usize
     match m {
         Message::Hello(flags) => text::decimals(out, at, &[flags as u64]),
         Message::SessionNonce(f) => {
-            let n = f.nonce;
-            let numbers = [
-                f.timeout.0,
-                n.0 as u64,
-                n.1 as u64,
-                n.2 as u64,
-                n.3 as u64,
-                n.4 as u64,
-            ];
-            text::decimals(out, at, &numbers)
+            let [a, b, c, d, e] = f.nonce.map(u64::from);
+            text::decimals(out, at, &[f.timeout.0, a, b, c, d, e])
         }
         Message::Heartbeat(timeout) => text::decimals(out, at, &[timeout.0]),
         Message::Status(f) => text::decimals(out, at, &[f.kind as u64, f.flags as u64]),

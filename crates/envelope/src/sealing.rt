@@ -57,7 +57,7 @@ pub fn seal_characteristic<C: BlockCipher>(
         return Err(Refusal::BadMessageData);
     }
     let key = keys.serving(mode, level);
-    let number = access::level_number(level);
+    let number = u8::from(level);
     let text = with_zeros(&validation, packet);
     let n = 16 * aes::blocks_for(4 + size);
     envelop::<C>(key, packet_nonce, session_nonce, number, &text[..n], out)

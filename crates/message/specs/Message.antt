@@ -19,7 +19,7 @@ message_type (HubReply f) = 11
 -- of a control message, the command's number and its values
 abbrev pub message_values : Message → List ℕ
 message_values (Hello flags) = flags ∷ []
-message_values (SessionNonce f) = f.timeout.0 ∷ f.nonce.0 ∷ f.nonce.1 ∷ f.nonce.2 ∷ f.nonce.3 ∷ f.nonce.4 ∷ []
+message_values (SessionNonce f) = f.timeout.0 ∷ f.nonce
 message_values (Heartbeat t) = t.0 ∷ []
 message_values (Status f) = f.kind ∷ f.flags ∷ []
 message_values GetMac = []

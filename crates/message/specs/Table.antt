@@ -53,7 +53,7 @@ abbrev pub table : List Row
 table =
     row 0 PlainOnly (fields (layout (exactly 1) (up_to 1 15 ∷ []) nothing) (λ v n. Hello (get_or v 0 0)))
     ∷ row 1 PlainOnly (fields (layout (exactly 6) (any 1 ∷ any 1 ∷ any 1 ∷ any 1 ∷ any 1 ∷ any 1 ∷ []) nothing)
-    (λ v n. SessionNonce (record { timeout = record { 0 = get_or v 0 0 }; nonce = record { 0 = get_or v 1 0; 1 = get_or v 2 0; 2 = get_or v 3 0; 3 = get_or v 4 0; 4 = get_or v 5 0 } })))
+    (λ v n. SessionNonce (record { timeout = record { 0 = get_or v 0 0 }; nonce = get_or v 1 0 ∷ get_or v 2 0 ∷ get_or v 3 0 ∷ get_or v 4 0 ∷ get_or v 5 0 ∷ [] })))
     ∷ row 2 Either (fields (layout (exactly 2) (any 2 ∷ []) nothing) (λ v n. Heartbeat (record { 0 = get_or v 0 0 })))
     ∷ row 3 Either (fields (layout (exactly 11) (up_to 1 1 ∷ up_to 1 15 ∷ []) free)
     (λ v n. Status (record { kind = get_or v 0 0; flags = get_or v 1 0; «data» = part 2 9 })))

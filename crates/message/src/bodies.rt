@@ -6,7 +6,7 @@ ghost use Rattle.message.specs.Table.{type_of, packet};
 ghost use Rattle.message.specs.Reading.{read_body};
 
 use crate::forms::access_of;
-use crate::{Form, HubReplyFields, Message, Nonce, SessionNonceFields, StatusFields};
+use crate::{Form, HubReplyFields, Message, SessionNonceFields, StatusFields};
 use access::Mode;
 use units::{Minutes, Seconds};
 use wire::{Part, Refusal};
@@ -32,7 +32,7 @@ pub fn session_nonce(d: &[u8]) -> Result<Message, Refusal>
     }
     Ok(Message::SessionNonce(SessionNonceFields {
         timeout: Minutes(wire::byte_at(d, 0) as u64),
-        nonce: Nonce(d[1], d[2], d[3], d[4], d[5]),
+        nonce: [d[1], d[2], d[3], d[4], d[5]],
     }))
 }
 

@@ -34,14 +34,10 @@ pub enum Message {
     HubReply(HubReplyFields),
 }
 
-// The five bytes of a session nonce.
-#[derive(Clone, Copy)]
-pub struct Nonce(pub u8, pub u8, pub u8, pub u8, pub u8);
-
 #[derive(Clone, Copy)]
 pub struct SessionNonceFields {
     pub timeout: Minutes,
-    pub nonce: Nonce,
+    pub nonce: [u8; 5],
 }
 
 // Kind: the status's type.

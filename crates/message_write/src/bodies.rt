@@ -37,18 +37,11 @@ pub fn hello(flags: u8, bytes: &[u8], out: &mut [u8]) -> Result<usize, Refusal>
 pub fn session_nonce(f: SessionNonceFields, bytes: &[u8], out: &mut [u8]) -> Result<usize, Refusal>
     ensures { WritesMessage (SessionNonce f) bytes.now out.old result out.new }
 {
-    let nonce = f.nonce;
     if 255 < f.timeout.0 {
         return Err(Refusal::BadMessageData);
     }
-    let fields = [
-        f.timeout.0 as u8,
-        nonce.0,
-        nonce.1,
-        nonce.2,
-        nonce.3,
-        nonce.4,
-    ];
+    let [a, b, c, d, e] = f.nonce;
+    let fields = [f.timeout.0 as u8, a, b, c, d, e];
     typed(1, &fields, &bytes[0..0], out)
 }
 

@@ -1,5 +1,5 @@
 -- An opener's answer as one number, for programs in other languages; and what else the opener is given.
-use Rattle.std.specs.Prelude.{ℕ, ◌+◌, ◌*◌, ◌%◌, ◌≡◌, true, false, List, length, Some, None, Ok, Err}
+use Rattle.std.specs.Prelude.{ℕ, ◌+◌, ◌*◌, ◌%◌, ◌≡◌, true, false, List, length, get_or, Some, None, Ok, Err}
 use Rattle.access.specs.declared.Mode.TheVariants.{Normal}
 use Rattle.control.specs.declared.Command.{Command}
 use Rattle.control.specs.declared.Command.TheVariants as command
@@ -38,7 +38,7 @@ packed_command command.GetUptime = packed 1180 0 0
 -- 1000 and the data type, and two fields
 abbrev pub packed_message : Message → ℕ
 packed_message (message.Hello flags) = packed 1000 flags 0
-packed_message (message.SessionNonce f) = packed 1001 f.timeout.0 f.nonce.0
+packed_message (message.SessionNonce f) = packed 1001 f.timeout.0 (get_or f.nonce 0 0)
 packed_message (message.Heartbeat t) = packed 1002 t.0 0
 packed_message (message.Status f) = packed 1003 f.kind f.flags
 packed_message message.GetMac = packed 1004 0 0

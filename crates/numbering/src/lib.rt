@@ -50,7 +50,7 @@ fn packed_message(m: Message) -> u64
 {
     match m {
         Message::Hello(flags) => pack(1000, flags as u64, 0),
-        Message::SessionNonce(f) => pack(1001, f.timeout.0, f.nonce.0 as u64),
+        Message::SessionNonce(f) => pack(1001, f.timeout.0, u64::from(f.nonce[0])),
         Message::Heartbeat(t) => pack(1002, t.0, 0),
         Message::Status(f) => pack(1003, f.kind as u64, f.flags as u64),
         Message::GetMac => pack(1004, 0, 0),

@@ -171,8 +171,8 @@ pub fn key(out: &mut [u8], at: usize, index: u8) -> usize {
 }
 
 pub fn level(out: &mut [u8], at: usize, n: u8) -> usize {
-    match access::level_of(n) {
-        Some(l) => text::named(out, at, b" known, ", access::level_number(l) as u64),
-        None => text::put(out, at, b" unknown"),
+    match Level::try_from(n) {
+        Ok(l) => text::named(out, at, b" known, ", u64::from(u8::from(l))),
+        Err(_) => text::put(out, at, b" unknown"),
     }
 }

@@ -6,7 +6,7 @@ use control::{
     Command, DeviceHeartbeatFields, GetStateFields, IbeaconFields, MultiSwitchFields,
     SetStateFields, SetupFields, TrackedDeviceFields,
 };
-use message::{HubReplyFields, Message, Nonce, SessionNonceFields, StatusFields};
+use message::{HubReplyFields, Message, SessionNonceFields, StatusFields};
 use result::{PresenceResult, ResultPacket, RoomMasks, UptimeResult};
 use text::reading;
 use units::{Minutes, Seconds};
@@ -164,7 +164,7 @@ fn message(v: &[u8], p: &[u8]) -> Message {
         0 => Message::Hello(byte(v, 1)),
         1 => Message::SessionNonce(SessionNonceFields {
             timeout: Minutes(number(v, 1)),
-            nonce: Nonce(byte(v, 2), byte(v, 3), byte(v, 4), byte(v, 5), byte(v, 6)),
+            nonce: [byte(v, 2), byte(v, 3), byte(v, 4), byte(v, 5), byte(v, 6)],
         }),
         2 => Message::Heartbeat(Seconds(number(v, 1))),
         3 => Message::Status(StatusFields {

@@ -35,7 +35,7 @@ fn mode_of(s: &[u8]) -> Mode {
 }
 
 fn level_of(s: &[u8]) -> Level {
-    access::level_of((reading::number(s) % 256) as u8).unwrap_or(Level::Admin)
+    Level::try_from((reading::number(s) % 256) as u8).unwrap_or(Level::Admin)
 }
 
 // A key, where its letter is there.

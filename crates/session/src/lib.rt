@@ -202,6 +202,6 @@ impl Keys {
     pub fn serving_number(self, mode: Mode, number: u8) -> Option<[u8; 16]>
         ensures { result ≡ key_for_number self mode number }
     {
-        self.serving(mode, access::level_of(number)?)
+        self.serving(mode, Level::try_from(number).ok()?)
     }
 }

@@ -15,6 +15,6 @@ returns g c =
     let fits = within 5 492 (length a.packet.now) c.outside.ensures c.if-outside.false in
     let four : length a.validation ≡ 4 = search rules in
     sealed_as a.packet_nonce a.session_nonce a.out.now (outside 5 492 (length a.packet.now)) (sym c.outside.ensures ∙ c.if-outside.false)
-    c.serving-key.ensures c.level_number-number.ensures
+    c.serving-key.ensures c.from-number.ensures
     (padded_text a.validation a.packet.now (omega (arith, four, fits.1)) (omega (arith, four, c.blocks_for-n.ensures)) c.with_zeros-text.ensures)
     c.envelop.ensures
