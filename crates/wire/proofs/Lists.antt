@@ -7,7 +7,7 @@ use native.Mathlib.Numerals.{add-one}
 use native.Mathlib.Omega.{arith}
 use Rattle.std.proofs.lemmas.List.{get_or-set_same, get_or-set_other}
 use Rattle.std.proofs.Common.{below_more, Option, Some, None, Bor, inl, inr, unwrap_or}
-use lib.ListN.{length, get_or, take, drop, set, length-append, length-drop, drop_of_length-le}
+use lib.ListN.{length, get_or, take, drop, set, length-drop, drop_of_length-le}
 use lib.Seq.{sets, sets-eq, take_all, take-suc, length-take-le}
 use Rattle.std.specs.Slice.{IsGetRangeResult}
 use Rattle.std.specs.List.{slice_range}
@@ -63,13 +63,6 @@ pub copy_more : (s l : List ℕ) (i k : ℕ) → k < length s → set (sets l i 
 copy_more s l i k h =
     sets_then (take k s) (get_or s k 0 ∷ []) l i (i + k) (omega (arith, length-take-le k s (omega arith)))
     ∙ rw (add-one k, take-suc s k 0 h)
-
--- three runs, each where the last ends
-pub sets_three : (a b c l : List ℕ) (i j : ℕ) → i ≡ length a → j ≡ length a + length b → sets (sets (sets l 0 a) i b) j c ≡ sets l 0 (a ++ (b ++ c))
-sets_three a b c l i j hi hj =
-    ap (λ (m : List ℕ). sets m j c) (sets_then a b l 0 i (omega arith))
-    ∙ sets_then (a ++ b) c l 0 j (omega (arith, length-append a b))
-    ∙ rw (append_assoc a b c)
 
 -- what is put at a place, with what stood before and behind it, is a run of stores
 pub put_sets : (at : ℕ) (s l : List ℕ) → at + length s ≤ length l → take at l ++ (s ++ post_of at (at + length s - at) l) ≡ sets l at s

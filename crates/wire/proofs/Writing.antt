@@ -1,15 +1,13 @@
 -- How a writer ends: a law for each way. Assumes nothing.
 use mathlib.Core.Path.{◌≡◌, refl, sym, ◌∙◌, subst}
 use mathlib.Core.Bool.{Bool, false}
-use mathlib.Core.List.{List, [], ◌∷◌, ◌++◌, append_assoc}
+use mathlib.Core.List.{List, [], ◌∷◌, append_assoc}
 use Prim.Native.Nat.{ℕ, suc, ◌+◌, ◌≤◌, ◌<◌}
-use native.Mathlib.Omega.{arith}
-use lib.ListN.{length, take, drop, length-append}
+use lib.ListN.{length, take, drop}
 use lib.Seq.{sets, sets-eq}
 use borrow.Author.Tests.{lt-ltb, le-ltb}
 use Rattle.wire.specs.Rules.{Rule, ◌when◌, first_broken}
 use Rattle.wire.specs.Writing.{Stores, no_room, placed}
-use Rattle.wire.proofs.Lists.{sets_three}
 use Rattle.wire.specs.declared.refusals.Refusal.{Refusal}
 use Rattle.std.specs.Prelude.{Result, Ok}
 use Rattle.wire.specs.Refusals.{number_of, refusal_of, refusing}
@@ -48,14 +46,3 @@ module _ (at : ℕ) (bytes room : List ℕ) where
 pub stores_same : (at : ℕ) {bytes bytes' room : List ℕ} {answer : Result ℕ Refusal} {after : List ℕ} → bytes ≡ bytes'
     → Stores (no_room at bytes room ∷ []) at bytes room answer after → Stores (no_room at bytes' room ∷ []) at bytes' room answer after
 stores_same at {room} {answer} {after} e w = subst (λ (l : List ℕ). Stores (no_room at l room ∷ []) at l room answer after) e w
-
--- ---- an image of three parts
-module _ (a b c room : List ℕ) where
-  three_length : length (a ++ (b ++ c)) ≡ length a + length b + length c
-  three_length = omega (arith, length-append a (b ++ c), length-append b c)
-
-  pub three_made : {after : List ℕ} {n i j : ℕ} → length a + length b + length c ≤ length room → i ≡ length a → j ≡ length a + length b
-      → after ≡ sets (sets (sets room 0 a) i b) j c → n ≡ length a + length b + length c
-      → Stores (no_room 0 (a ++ (b ++ c)) room ∷ []) 0 (a ++ (b ++ c)) room (Ok n) after
-  three_made {i} {j} h hi hj s l =
-      stores_made 0 (a ++ (b ++ c)) room (omega (arith, three_length)) (s ∙ sets_three a b c room i j hi hj) (omega (arith, three_length))

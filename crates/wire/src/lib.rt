@@ -165,12 +165,5 @@ pub fn write3(a: &[u8], b: &[u8], c: &[u8], out: &mut [u8]) -> Result<usize, Ref
     ensures { Stores (no_room 0 (a.now ++ (b.now ++ c.now)) out.old ∷ []) 0
         (a.now ++ (b.now ++ c.now)) out.old result out.new }
 {
-    let need = a.len().saturating_add(b.len()).saturating_add(c.len());
-    if out.len() < need {
-        return Err(Refusal::NoRoom);
-    }
-    copy(a, 0, out);
-    copy(b, a.len(), out);
-    copy(c, a.len() + b.len(), out);
-    Ok(need)
+    layouts::write5(a, b, c, &[], &[], out)
 }
