@@ -71,9 +71,9 @@ fn answer(
     bytes: &[u8],
     connection: Connection,
 ) -> Answered {
-    match access::level_of(number) {
-        Some(level) => sealed(out, at, level, v, bytes, connection),
-        None => Answered {
+    match Level::try_from(number) {
+        Ok(level) => sealed(out, at, level, v, bytes, connection),
+        Err(_) => Answered {
             end: text::put(out, at, b"unknown"),
             connection,
         },

@@ -102,9 +102,8 @@ fn packet_content(out: &mut [u8], at: usize, outcome: &[u8], r: ResultPacket) ->
 
 // The code, the eight masks.
 fn presence_content(out: &mut [u8], at: usize, r: PresenceResult) -> usize {
-    let m = r.masks;
     let a = text::named(out, at, b" presence ", r.code as u64);
-    text::decimals(out, a, &[m.0, m.1, m.2, m.3, m.4, m.5, m.6, m.7])
+    text::decimals(out, a, &r.masks)
 }
 
 // The code, the seconds.

@@ -7,7 +7,7 @@ use control::{
     SetStateFields, SetupFields, TrackedDeviceFields,
 };
 use message::{HubReplyFields, Message, SessionNonceFields, StatusFields};
-use result::{PresenceResult, ResultPacket, RoomMasks, UptimeResult};
+use result::{PresenceResult, ResultPacket, UptimeResult};
 use text::reading;
 use units::{Minutes, Seconds};
 use wire::{Part, Refusal};
@@ -139,7 +139,7 @@ fn packet(v: &[u8], p: &[u8]) -> ResultPacket {
 fn presence(v: &[u8]) -> PresenceResult {
     PresenceResult {
         code: short(v, 0),
-        masks: RoomMasks(
+        masks: [
             mask(v, 1),
             mask(v, 2),
             mask(v, 3),
@@ -148,7 +148,7 @@ fn presence(v: &[u8]) -> PresenceResult {
             mask(v, 6),
             mask(v, 7),
             mask(v, 8),
-        ),
+        ],
     }
 }
 

@@ -21,7 +21,7 @@ use Rattle.wire.proofs.Fields.{part_end}
 use Rattle.wire.proofs.Held.{held}
 use Rattle.wire.proofs.Lookup.{lookup_all, ◌also◌}
 use Rattle.wire.proofs.Listed.{judge_listed}
-use Rattle.result.specs.Result.{Outcome, done, waiting, failed, code_means, is_done, anything, Row, table, other_row, row_of, payload_for, made, result_rules, resulting, result_content, mask_values, read_content, result_answer, case_for, outcome_of, result_at, read_result, ReadsResult}
+use Rattle.result.specs.Result.{Outcome, done, waiting, failed, code_means, is_done, anything, Row, table, other_row, row_of, payload_for, made, result_rules, resulting, result_content, read_content, result_answer, case_for, outcome_of, result_at, read_result, ReadsResult}
 use Rattle.result.specs.declared.ResultPacket.{ResultPacket}
 use Rattle.result.specs.declared.PresenceResult.{PresenceResult}
 use Rattle.result.specs.declared.UptimeResult.{UptimeResult}
@@ -92,7 +92,7 @@ reads_result p e =
 
 -- masks and an uptime come of no packet but a done one of their command, which holds just these numbers
 pub presence_only : (p : List ℕ) (r : PresenceResult) → read_result p ≡ Ok (Presence r)
-    → result_content p ≡ resulting done r.code (content 72 (mask_values r.masks) [])
+    → result_content p ≡ resulting done r.code (content 72 r.masks [])
 presence_only p r e = accepted_is (first_broken (result_rules p)) (sym (reads_result p (sym e)).content)
 
 pub uptime_only : (p : List ℕ) (r : UptimeResult) → read_result p ≡ Ok (Uptime r) → result_content p ≡ resulting done r.code (content 80 (r.uptime.0 ∷ []) [])

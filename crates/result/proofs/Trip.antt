@@ -1,5 +1,5 @@
 -- What the writers of result packets wrote is read back. Assumes nothing.
-use mathlib.Core.Path.{◌≡◌, refl, ap, ◌∙◌}
+use mathlib.Core.Path.{◌≡◌, refl, ap, subst, ◌∙◌}
 use Prim.Native.Nat.{ℕ, ◌+◌, ◌-◌}
 use mathlib.Core.Bool.{false, not, ◌||◌}
 use mathlib.Core.List.{List, [], ◌∷◌}
@@ -17,13 +17,14 @@ use Rattle.wire.specs.declared.refusals.Refusal.{Refusal}
 use Rattle.wire.proofs.Choice.{or_fails}
 use Rattle.wire.proofs.Fields.{Readable, readable, part_length, part_end}
 use Rattle.wire.proofs.Writers.{wrote_back}
-use Rattle.result.specs.Result.{Outcome, done, code_means, is_done, row_of, payload_for, payload_of, mask_values, resulting, read_content, result_answer, case_for, outcome_of, result_at, read_result}
+use Rattle.result.specs.Result.{Outcome, done, code_means, is_done, masks_of, row_of, payload_for, payload_of, resulting, read_content, result_answer, case_for, outcome_of, result_at, read_result}
 use Rattle.result.specs.Image.{result_bytes, result_bad, result_image, fields_bad, fields_image, presence_bad, presence_image, uptime_bad, uptime_image, moved, ReadsBack, FieldsBack, PresenceBack, UptimeBack}
 use Rattle.result.proofs.Meaning.{is_done_lem, case_content}
 use Rattle.result.specs.declared.ResultPacket.{ResultPacket}
 use Rattle.result.specs.declared.PresenceResult.{PresenceResult}
 use Rattle.result.specs.declared.UptimeResult.{UptimeResult}
 use Rattle.result.specs.declared.ResultRead.{ResultRead}
+use Rattle.result.specs.declared.ResultRead.TheVariants.{Presence}
 
 -- ---- a packet around any payload
 module _ (n code : ℕ) (q : List ℕ) where
@@ -91,7 +92,9 @@ module _ (n code : ℕ) (vs : List ℕ) (good : fields_bad n code vs ≡ false) 
       }
 
 pub presence_back : (r : PresenceResult) → presence_bad r ≡ false → PresenceBack r (presence_image r)
-presence_back r good = fields_back 72 r.code (mask_values r.masks) good refl refl
+presence_back r good =
+    let eight : masks_of r.masks ≡ r.masks = subst (λ (v : List ℕ). masks_of v ≡ v) (fits 72 r.code r.masks good).values refl in
+    fields_back 72 r.code r.masks good (ap (λ (v : List ℕ). Presence (record { code = r.code; masks = v })) eight) refl
 
 pub uptime_back : (r : UptimeResult) → uptime_bad r ≡ false → UptimeBack r (uptime_image r)
 uptime_back r good = fields_back 80 r.code (r.uptime.0 ∷ []) good refl refl

@@ -4,7 +4,7 @@ use Rattle.wire.specs.Numbers.{le}
 use Rattle.wire.specs.Content.{accepted, content}
 use Rattle.wire.specs.Parts.{part, part_of}
 use Rattle.wire.specs.Fields.{wrong_size, past, body_of, unreadable}
-use Rattle.result.specs.Result.{done, code_means, is_done, payload_for, payload_of, payload_content, resulting, mask_values, result_answer, outcome_of, read_result}
+use Rattle.result.specs.Result.{done, code_means, is_done, payload_for, payload_of, payload_content, resulting, result_answer, outcome_of, read_result}
 use Rattle.result.specs.declared.ResultPacket.{ResultPacket}
 use Rattle.result.specs.declared.PresenceResult.{PresenceResult}
 use Rattle.result.specs.declared.UptimeResult.{UptimeResult}
@@ -34,10 +34,10 @@ abbrev pub fields_image : ℕ → ℕ → List ℕ → List ℕ
 fields_image n code vs = result_bytes n code (body_of (payload_for done n) vs [] [])
 
 abbrev pub presence_bad : PresenceResult → Bool
-presence_bad r = fields_bad 72 r.code (mask_values r.masks)
+presence_bad r = fields_bad 72 r.code r.masks
 
 abbrev pub presence_image : PresenceResult → List ℕ
-presence_image r = fields_image 72 r.code (mask_values r.masks)
+presence_image r = fields_image 72 r.code r.masks
 
 abbrev pub uptime_bad : UptimeResult → Bool
 uptime_bad r = fields_bad 80 r.code (r.uptime.0 ∷ [])
@@ -62,7 +62,7 @@ pub record FieldsBack (n code : ℕ) (vs : List ℕ) (given : ResultRead) (p : L
   pub answer : read_result p ≡ Ok given
 
 abbrev pub PresenceBack : PresenceResult → List ℕ → Type 0
-PresenceBack r p = FieldsBack 72 r.code (mask_values r.masks) (Presence r) p
+PresenceBack r p = FieldsBack 72 r.code r.masks (Presence r) p
 
 abbrev pub UptimeBack : UptimeResult → List ℕ → Type 0
 UptimeBack r p = FieldsBack 80 r.code (r.uptime.0 ∷ []) (Uptime r) p

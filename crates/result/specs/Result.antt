@@ -9,7 +9,6 @@ use Rattle.wire.specs.declared.refusals.Refusal.{Refusal}
 use Rattle.wire.specs.Content.{Judged, accepted, refused, Content, content}
 use Rattle.wire.specs.Parts.{part, part_of}
 use Rattle.wire.specs.Fields.{Field, Layout, layout, exactly, at_least, any, nothing, free, wrong_size, values_at, content_by}
-use Rattle.result.specs.declared.RoomMasks.{RoomMasks}
 use Rattle.result.specs.declared.ResultPacket.{ResultPacket}
 use Rattle.result.specs.declared.ResultRead.{ResultRead}
 use Rattle.result.specs.declared.ResultRead.TheVariants.{Done, Presence, Uptime, Waiting, Failed}
@@ -44,12 +43,9 @@ row n l f = record { command = n; payload = l; make = f }
 abbrev pub masks : List Field
 masks = any 8 ∷ any 8 ∷ any 8 ∷ any 8 ∷ any 8 ∷ any 8 ∷ any 8 ∷ any 8 ∷ []
 
-abbrev pub masks_of : List ℕ → RoomMasks
+abbrev pub masks_of : List ℕ → List ℕ
 masks_of v =
-    record { 0 = get_or v 0 0; 1 = get_or v 1 0; 2 = get_or v 2 0; 3 = get_or v 3 0; 4 = get_or v 4 0; 5 = get_or v 5 0; 6 = get_or v 6 0; 7 = get_or v 7 0 }
-
-abbrev pub mask_values : RoomMasks → List ℕ
-mask_values m = m.0 ∷ m.1 ∷ m.2 ∷ m.3 ∷ m.4 ∷ m.5 ∷ m.6 ∷ m.7 ∷ []
+    get_or v 0 0 ∷ get_or v 1 0 ∷ get_or v 2 0 ∷ get_or v 3 0 ∷ get_or v 4 0 ∷ get_or v 5 0 ∷ get_or v 6 0 ∷ get_or v 7 0 ∷ []
 
 -- get presence: room masks
 abbrev pub presence_row : Row
@@ -116,7 +112,7 @@ part_content o r s = resulting o r.code (content r.command [] (part_of s r.paylo
 -- what a result that was read holds
 abbrev pub read_content : ResultRead → List ℕ → ResultContent
 read_content (Done r) p = part_content done r p
-read_content (Presence r) p = resulting done r.code (content 72 (mask_values r.masks) [])
+read_content (Presence r) p = resulting done r.code (content 72 r.masks [])
 read_content (Uptime r) p = resulting done r.code (content 80 (r.uptime.0 ∷ []) [])
 read_content (Waiting r) p = part_content waiting r p
 read_content (Failed r) p = part_content failed r p

@@ -19,24 +19,11 @@ pub struct ResultPacket {
     pub payload: Part,
 }
 
-// A mask of rooms for each of eight profiles: bit n is set where room n is occupied.
-#[derive(Clone, Copy)]
-pub struct RoomMasks(
-    pub u64,
-    pub u64,
-    pub u64,
-    pub u64,
-    pub u64,
-    pub u64,
-    pub u64,
-    pub u64,
-);
-
-// Get presence, done.
+// Get presence, done: a mask of rooms for each of eight profiles, whose bit n is set where room n is occupied.
 #[derive(Clone, Copy)]
 pub struct PresenceResult {
     pub code: u16,
-    pub masks: RoomMasks,
+    pub masks: [u64; 8],
 }
 
 // Get uptime, done: the time since boot.
@@ -134,14 +121,14 @@ pub fn write_result(res: ResultPacket, bytes: &[u8], out: &mut [u8]) -> Result<u
 pub fn write_presence(res: PresenceResult, out: &mut [u8]) -> Result<usize, Refusal>
     ensures { Writes (presence_bad res) (presence_image res) out.old result out.new }
 {
-    let m = res.masks;
+    let [a, b, c, d, e, f, g, h] = res.masks;
     if payloads::means_done(res.code) {
         return wire::layouts::write5(
             &payloads::head(72, res.code, 64),
-            &payloads::two_masks(m.0, m.1),
-            &payloads::two_masks(m.2, m.3),
-            &payloads::two_masks(m.4, m.5),
-            &payloads::two_masks(m.6, m.7),
+            &payloads::two_masks(a, b),
+            &payloads::two_masks(c, d),
+            &payloads::two_masks(e, f),
+            &payloads::two_masks(g, h),
             out,
         );
     }

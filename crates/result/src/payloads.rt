@@ -6,7 +6,7 @@ ghost use Rattle.wire.specs.Writing.{Writes};
 ghost use Rattle.result.specs.Result.{done, code_means, is_done, presence_row, uptime_row, made, payload_for, payload_of};
 ghost use Rattle.result.specs.Image.{result_bytes};
 
-use crate::{PresenceResult, ResultPacket, ResultRead, RoomMasks, UptimeResult};
+use crate::{PresenceResult, ResultPacket, ResultRead, UptimeResult};
 use units::Seconds;
 use wire::Refusal;
 
@@ -47,7 +47,7 @@ pub fn presence(res: ResultPacket, q: &[u8]) -> ResultRead
 {
     ResultRead::Presence(PresenceResult {
         code: res.code,
-        masks: RoomMasks(
+        masks: [
             wire::read_u64(q, 0),
             wire::read_u64(q, 8),
             wire::read_u64(q, 16),
@@ -56,7 +56,7 @@ pub fn presence(res: ResultPacket, q: &[u8]) -> ResultRead
             wire::read_u64(q, 40),
             wire::read_u64(q, 48),
             wire::read_u64(q, 56),
-        ),
+        ],
     })
 }
 
