@@ -31,7 +31,8 @@ fn events_in(e: Option<Event>) -> usize
     }
 }
 
-// The entries and payload bytes of a capture are counted.
+// The entries and payload bytes of a capture are counted. That a capture has at most 65,536 bytes stands in three clauses here: a struct around the slice would
+// be made in `decode` and taken apart in each of the three.
 fn count(s: &[u8]) -> Counts
     requires { length s.now ≤ 65536 }
     ensures { CountsOf s.now result }
@@ -43,9 +44,8 @@ fn count(s: &[u8]) -> Counts
     // No `for`, here and in `write`: a turn goes on behind the event that it found, whose payload is in the store until the next.
     while i < s.len() {
         let found = ahead::look(s, i, &mut store);
-        let e = found.event;
-        entries += events_in(e);
-        bytes += entries::payload_length(e);
+        entries += events_in(found.event);
+        bytes += entries::payload_length(found.event);
         i = found.next;
     }
     Counts { entries, bytes }
@@ -109,9 +109,8 @@ fn write(s: &[u8], list: &mut [u64], buffer: &mut [u8]) -> Counts
     while i < s.len() {
         let found = ahead::look(s, i, &mut store);
         put(found, &store, list, entries, buffer, bytes);
-        let e = found.event;
-        entries += events_in(e);
-        bytes += entries::payload_length(e);
+        entries += events_in(found.event);
+        bytes += entries::payload_length(found.event);
         i = found.next;
     }
     Counts { entries, bytes }

@@ -155,6 +155,70 @@ fn sized(size: usize, count: usize) -> Move
     }
 }
 
+// The progress of a frame that is not at its end.
+#[derive(Clone, Copy)]
+struct InFrame {
+    progress: Progress,
+    ghost sized: { progress.size ≤ 512 },
+    ghost unfinished: { progress.got < progress.size + 2 },
+}
+
+impl InFrame {
+    // An unescaped byte after the size is for the next place of the store; the last one finishes the frame.
+    #[tactic(auto, unfolding(crate::specs::Moves::stored_move))]
+    fn stored(self, v: u8) -> Move
+        requires { 2 ≤ self.progress.got }
+        ensures { result ≡ moves.stored_move self.progress v }
+    {
+        let p = self.progress;
+        let at = p.got - 2;
+        if p.got == p.size + 1 {
+            Move {
+                progress: idle(),
+                action: Action::Finish {
+                    at,
+                    byte: v,
+                    size: p.size,
+                    place: p.count,
+                },
+            }
+        } else {
+            Move {
+                progress: reading(false, p.low, p.got + 1, p.size, p.count),
+                action: Action::Put { at, byte: v },
+            }
+        }
+    }
+
+    // An unescaped byte: the size's low byte, its high byte, or one after the size.
+    #[tactic(auto, unfolding(crate::specs::Moves::taken_move))]
+    fn taken(self, v: u8) -> Move
+        ensures { result ≡ moves.taken_move self.progress v }
+    {
+        let p = self.progress;
+        match p.got {
+            0 => Move {
+                progress: reading(false, v, 1, p.size, p.count),
+                action: Action::Keep,
+            },
+            1 => sized(usize::from(u16::from_le_bytes([p.low, v])), p.count),
+            _ => self.stored(v),
+        }
+    }
+
+    // A byte after 5C that is no start byte: refused where it is neither 3E nor 1C.
+    #[tactic(auto, unfolding(crate::specs::Moves::unescaped_move))]
+    fn unescaped(self, b: u8) -> Move
+        ensures { result ≡ moves.unescaped_move self.progress b }
+    {
+        match b {
+            0x3E => self.taken(0x7E),
+            0x1C => self.taken(0x5C),
+            _ => refuse(Refusal::BadEscape, self.progress.count),
+        }
+    }
+}
+
 impl Progress {
     // In the middle of a frame, by its size and its unescaped bytes.
     #[tactic(auto, unfolding(crate::specs::Receive::mid_frame))]
@@ -172,60 +236,6 @@ impl Progress {
         self.mid_frame() && self.count < 1029
     }
 
-    // An unescaped byte after the size is for the next place of the store; the last one finishes the frame.
-    #[tactic(auto, unfolding(crate::specs::Moves::stored_move))]
-    fn stored(self, v: u8) -> Move
-        requires { (2 ≤ self.got) × (self.size ≤ 512) × (self.got < self.size + 2) }
-        ensures { result ≡ moves.stored_move self v }
-    {
-        let at = self.got - 2;
-        if self.got == self.size + 1 {
-            Move {
-                progress: idle(),
-                action: Action::Finish {
-                    at,
-                    byte: v,
-                    size: self.size,
-                    place: self.count,
-                },
-            }
-        } else {
-            Move {
-                progress: reading(false, self.low, self.got + 1, self.size, self.count),
-                action: Action::Put { at, byte: v },
-            }
-        }
-    }
-
-    // An unescaped byte: the size's low byte, its high byte, or one after the size.
-    #[tactic(auto, unfolding(crate::specs::Moves::taken_move))]
-    fn taken(self, v: u8) -> Move
-        requires { (self.size ≤ 512) × (self.got < self.size + 2) }
-        ensures { result ≡ moves.taken_move self v }
-    {
-        match self.got {
-            0 => Move {
-                progress: reading(false, v, 1, self.size, self.count),
-                action: Action::Keep,
-            },
-            1 => sized(usize::from(u16::from_le_bytes([self.low, v])), self.count),
-            _ => self.stored(v),
-        }
-    }
-
-    // A byte after 5C that is no start byte: refused where it is neither 3E nor 1C.
-    #[tactic(auto, unfolding(crate::specs::Moves::unescaped_move))]
-    fn unescaped(self, b: u8) -> Move
-        requires { (self.size ≤ 512) × (self.got < self.size + 2) }
-        ensures { result ≡ moves.unescaped_move self b }
-    {
-        match b {
-            0x3E => self.taken(0x7E),
-            0x1C => self.taken(0x5C),
-            _ => refuse(Refusal::BadEscape, self.count),
-        }
-    }
-
     // A byte inside a frame that is no start byte counts, and is looked at.
     #[tactic(auto, unfolding(crate::specs::Moves::in_frame_move))]
     fn in_frame(self, b: u8) -> Move
@@ -236,15 +246,16 @@ impl Progress {
             count: self.count + 1,
             ..self
         };
+        let frame = InFrame { progress: p };
         if p.escaped {
-            p.unescaped(b)
+            frame.unescaped(b)
         } else if b == 0x5C {
             Move {
                 progress: reading(true, p.low, p.got, p.size, p.count),
                 action: Action::Keep,
             }
         } else {
-            p.taken(b)
+            frame.taken(b)
         }
     }
 

@@ -5,19 +5,16 @@ use Rattle.capture.proofs.write.Goals as goal
 
 pub put-requires : goal.put-requires
 put-requires c =
-    let b = c in
-    let v = b.loop-i.invariant in
-    let p = b.requires in
-    let h = b.look-found.ensures in
+    let v = c.loop-i.invariant in
+    let p = c.requires in
+    let h = c.look-found.ensures in
     (room_there v.0 v.1 h p.1 p.2, omega (arith, h.below (omega arith), p.0))
 
 pub loop-i-preserved : goal.loop-i-preserved
 loop-i-preserved c =
-    let q = c in
-    let b = q in
-    let v = b.loop-i.invariant in
+    let v = c.loop-i.invariant in
     let n = c.events_in-entries.ensures in
-    (left_next (omega arith) v.0 b.look-found.ensures n c.payload_length-bytes.ensures, filled_next v.1 b.look-found.ensures q.put.ensures n.0 c.payload_length-bytes.ensures)
+    (left_next (omega arith) v.0 c.look-found.ensures n c.payload_length-bytes.ensures, filled_next v.1 c.look-found.ensures c.put.ensures n.0 c.payload_length-bytes.ensures)
 
 pub returns : goal.returns
 returns c =

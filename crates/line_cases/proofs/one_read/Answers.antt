@@ -5,5 +5,4 @@ use Rattle.line_cases.proofs.one_read.Goals as goal
 
 pub loop-i-smaller : goal.loop-i-smaller
 loop-i-smaller c =
-    let a = c in
-    omega (arith, advances a.advance-a.ensures a.loop-i-test.true)
+    omega (arith, advances c.advance-a.ensures c.loop-i-test.true)

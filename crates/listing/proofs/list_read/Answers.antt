@@ -11,12 +11,9 @@ loop-used-init g c = (refl, refl)
 
 pub loop-used-smaller : goal.loop-used-smaller
 loop-used-smaller g c =
-    let t = c in
-    let l = t in
-    omega (arith, lists_forward t.list_some-l.ensures.0 t.list_some-l.ensures.1 l.loop-used-test.true (omega (arith, l.loop-used.invariant.0)))
+    omega (arith, lists_forward c.list_some-l.ensures.0 c.list_some-l.ensures.1 c.loop-used-test.true (omega (arith, c.loop-used.invariant.0)))
 
 pub loop-used-preserved : goal.loop-used-preserved
 loop-used-preserved g c =
-    let t = c in
-    let l = t.loop-used in
-    (lists_length t.list_some-l.ensures.0 ∙ l.invariant.0, lists_after t.list_some-l.ensures.0 _ l.invariant.1)
+    let l = c.loop-used in
+    (lists_length c.list_some-l.ensures.0 ∙ l.invariant.0, lists_after c.list_some-l.ensures.0 _ l.invariant.1)

@@ -12,11 +12,9 @@ loop-used-init c =
 
 pub loop-used-smaller : goal.loop-used-smaller
 loop-used-smaller c =
-    let a = c in
-    omega (arith, advances a.advance-a.ensures a.loop-used-test.true)
+    omega (arith, advances c.advance-a.ensures c.loop-used-test.true)
 
 pub loop-used-preserved : goal.loop-used-preserved
 loop-used-preserved c =
-    let a = c in
-    let l = a.loop-used in
-    lists_more l.invariant a.advance-a.ensures c.event_line-at.ensures (omega (arith, lists_length l.invariant, lists_fits l.invariant))
+    let l = c.loop-used in
+    lists_more l.invariant c.advance-a.ensures c.event_line-at.ensures (omega (arith, lists_length l.invariant, lists_fits l.invariant))

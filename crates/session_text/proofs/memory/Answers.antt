@@ -5,6 +5,4 @@ use Rattle.session_text.proofs.memory.Goals as goal
 
 pub returns : goal.returns
 returns c =
-    let n = c in
-    let p = n in
-    rw (← p.filled-n.ensures.0, ne_eqb _ 0 n.if-n-eq0.false) (puts_then n.named-behind.ensures c.put_places.ensures)
+    rw (← c.filled-n.ensures.0, ne_eqb _ 0 c.if-n-eq0.false) (puts_then c.named-behind.ensures c.put_places.ensures)

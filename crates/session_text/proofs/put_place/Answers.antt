@@ -4,5 +4,4 @@ use Rattle.session_text.proofs.put_place.Goals as goal
 
 pub returns : goal.returns
 returns c =
-    let p = c in
-    puts_then p.put-behind.ensures (rw p.u32_bytes-bytes.ensures at c.hex.ensures)
+    puts_then c.put-behind.ensures (rw c.u32_bytes-bytes.ensures at c.hex.ensures)

@@ -11,27 +11,22 @@ use Rattle.capture.proofs.ahead.checked.Goals as goal
 
 pub returns-then-crc-read_u16 : goal.returns-then-crc-read_u16
 returns-then-crc-read_u16 c =
-    let b = c in
-    let d = b in
-    let a = d.args in
+    let a = c.args in
     let s = a.store.now in
     let e : NextEvent = refusal_at CrcDiffers a.offset a.behind a.behind in
     let q = c.refused.ensures in (
       ap (λ (x : NextEvent). emitted x.event s) q
-          ∙ crc_differs a.size (a.behind - a.offset) s d.requires.0 d.requires.1 (search rules) b.crc.result c.read_u16.result
-          b.crc.ensures c.read_u16.ensures.0 c.if-crc-read_u16.true,
+          ∙ crc_differs a.size (a.behind - a.offset) s c.requires.0 c.requires.1 (search rules) c.crc.result c.read_u16.result
+          c.crc.ensures c.read_u16.ensures.0 c.if-crc-read_u16.true,
       ap (λ (x : NextEvent). x.offset) q,
       ap (λ (x : NextEvent). x.next) q,
     )
 
 pub returns : goal.returns
 returns c =
-    let f = c in
-    let b = f in
-    let d = b in
-    let a = d.args in (
-      crc_same a.size (a.behind - a.offset) a.store.now d.requires.0 d.requires.1 (search rules) b.crc.result f.read_u16.result
-          b.crc.ensures f.read_u16.ensures.0 f.if-crc-read_u16.false,
+    let a = c.args in (
+      crc_same a.size (a.behind - a.offset) a.store.now c.requires.0 c.requires.1 (search rules) c.crc.result c.read_u16.result
+          c.crc.ensures c.read_u16.ensures.0 c.if-crc-read_u16.false,
       refl,
       refl,
     )

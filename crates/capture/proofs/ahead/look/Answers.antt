@@ -7,10 +7,8 @@ returns-then-s-from c = looks_end c.if-s-from.true c.nothing.ensures
 
 pub returns-then-s-offset : goal.returns-then-s-offset
 returns-then-s-offset c =
-    let b = c in
-    looks_nothing b.if-s-from.false b.next_start-offset.ensures c.if-s-offset.true c.nothing-then-s-offset.ensures
+    looks_nothing c.if-s-from.false c.next_start-offset.ensures c.if-s-offset.true c.nothing-then-s-offset.ensures
 
 pub returns : goal.returns
 returns c =
-    let b = c in
-    looks_next b.if-s-from.false b.next_start-offset.ensures c.if-s-offset.false c.behind_start.ensures
+    looks_next c.if-s-from.false c.next_start-offset.ensures c.if-s-offset.false c.behind_start.ensures

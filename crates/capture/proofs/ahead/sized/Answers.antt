@@ -20,29 +20,23 @@ returns-then-size-lt5 c =
 
 pub broken-requires : goal.broken-requires
 broken-requires c =
-    let b = c in
-    let t = b.unescape-t.ensures in
-    let h = takes_holds b.requires.1 t in
+    let t = c.unescape-t.ensures in
+    let h = takes_holds c.requires.1 t in
     (omega (arith, h.forward), h.within, t.stuck c.if-t-size.true)
 
 pub returns-then-t-size : goal.returns-then-t-size
 returns-then-t-size c =
-    let b = c in
-    let d = b in
-    let a = d.args in
-    next_cut a.s.now a.offset a.at a.size c.broken.result _ d.requires.0 d.requires.1 (omega arith) (omega arith) b.unescape-t.ensures
+    let a = c.args in
+    next_cut a.s.now a.offset a.at a.size c.broken.result _ c.requires.0 c.requires.1 (omega arith) (omega arith) c.unescape-t.ensures
     c.if-t-size.true c.broken.ensures
 
 pub checked-requires : goal.checked-requires
 checked-requires c =
-    let b = c in
-    let h = takes_holds b.requires.1 b.unescape-t.ensures in
+    let h = takes_holds c.requires.1 c.unescape-t.ensures in
     (omega arith, omega arith, omega (arith, h.forward))
 
 pub returns : goal.returns
 returns c =
-    let b = c in
-    let d = b in
-    let a = d.args in
-    next_checked a.s.now a.offset a.at a.size c.checked.result _ d.requires.0 d.requires.1 (omega arith) (omega arith) b.unescape-t.ensures
+    let a = c.args in
+    next_checked a.s.now a.offset a.at a.size c.checked.result _ c.requires.0 c.requires.1 (omega arith) (omega arith) c.unescape-t.ensures
     c.if-t-size.false c.checked.ensures

@@ -5,6 +5,4 @@ use Rattle.capture.proofs.ahead.unescape.Goals as goal
 
 pub take_some-more-requires : goal.take_some-more-requires
 take_some-more-requires c =
-    let b = c in
-    let d = b in
-    (omega arith, omega arith, (b.loop-t.invariant.2 d.args.from (holds_none d.args.s.now d.args.from d.args.store.now d.requires.0)).within)
+    (omega arith, omega arith, (c.loop-t.invariant.2 c.args.from (holds_none c.args.s.now c.args.from c.args.store.now c.requires.0)).within)

@@ -9,13 +9,11 @@ returns-then-k-ge65536 c =
 
 pub returns-then-list-k : goal.returns-then-list-k
 returns-then-list-k c =
-    let b = c in
-    let a = b.args in
-    part_missing a.list.now a.k b.if-k-ge65536.false c.if-list-k.true c.payload_total.result c.payload_total.ensures
+    let a = c.args in
+    part_missing a.list.now a.k c.if-k-ge65536.false c.if-list-k.true c.payload_total.result c.payload_total.ensures
 
 pub returns : goal.returns
 returns c =
-    let b = c in
-    let a = b.args in
-    part_there a.list.now a.k b.if-k-ge65536.false b.payload_total-start.result c.length_of.result b.payload_total-start.ensures
+    let a = c.args in
+    part_there a.list.now a.k c.if-k-ge65536.false c.payload_total-start.result c.length_of.result c.payload_total-start.ensures
     c.length_of.ensures.0
