@@ -41,7 +41,8 @@ fn count(s: &[u8]) -> Counts
     let mut entries: usize = 0;
     let mut bytes: usize = 0;
     let mut i: usize = 0;
-    // No `for`, here and in `write`: a turn goes on behind the event that it found, whose payload is in the store until the next.
+    // No `for`, here and in `write`: a turn goes on behind the event that it found, whose payload is in the store until the next. Nor one walk for both: a
+    // closure that writes what it captures leaves no fact of it.
     while i < s.len() {
         let found = ahead::look(s, i, &mut store);
         entries += events_in(found.event);

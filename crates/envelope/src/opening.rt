@@ -156,7 +156,7 @@ fn packet_size(text: &[u8]) -> usize
     5 + (wire::read_u16(text, 7) as usize)
 }
 
-// Whether the first four bytes are these.
+// Whether the first four bytes are these, by `same_bytes`, in which the rule is stated.
 fn starts_with(text: &[u8], front: [u8; 4]) -> bool
     ensures { result ≡ same_bytes (take 4 text.now) front }
 {

@@ -85,7 +85,7 @@ fn case<R: Print>(rt: &R, line: &[u8]) -> io::Result<()> {
     rt.write_all(front(&out, len))
 }
 
-// The lines, the last also where no newline ends it.
+// The lines, the last also where no newline ends it; `console::for_each_line` leaves that one out.
 fn cases<R: Print>(rt: &R, s: &[u8]) -> io::Result<()> {
     for line in s.split_inclusive(|b| *b == b'\n') {
         case(rt, line.strip_suffix(b"\n").unwrap_or(line))?;

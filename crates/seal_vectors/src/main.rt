@@ -27,6 +27,7 @@ struct Case {
     keys: Keys,
 }
 
+// Each program spells the mode in its own way.
 fn mode_of(s: &[u8]) -> Mode {
     match s {
         b"setup" => Mode::Setup,
@@ -46,6 +47,7 @@ fn key(letters: &[u8], k: usize, bytes: &[u8; 16]) -> Option<[u8; 16]> {
     Some(*bytes)
 }
 
+// Keys by letters, each of its own bytes.
 fn keys_of(s: &[u8]) -> Keys {
     Keys {
         admin: key(

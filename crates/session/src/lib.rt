@@ -16,7 +16,7 @@ use units::{Minutes, Seconds};
 // The packet nonces of the last encrypted messages that passed all of 10 to 13, each a number of three bytes.
 #[derive(Clone, Copy)]
 pub struct NonceMemory {
-    // How many are remembered, 0 to 8.
+    // How many are remembered, 0 to 8. Beside the places and no slice of them: programs give and print counts above 8, which mean none.
     pub count: usize,
     // Newest first.
     pub nonces: [u32; 8],

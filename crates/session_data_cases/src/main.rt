@@ -20,6 +20,7 @@ fn field(line: &[u8], k: usize) -> &[u8] {
     reading::field(line, b'|', k)
 }
 
+// Each program spells the mode in its own way.
 fn mode_of(line: &[u8]) -> Mode {
     match field(line, 2) {
         b"setup" => Mode::Setup,
@@ -37,6 +38,7 @@ fn key(letters: &[u8], k: usize, listed: &[u8]) -> Option<[u8; 16]> {
     Some(bytes)
 }
 
+// Keys by letters, each of bytes that are listed as a line lists them.
 fn keys_of(line: &[u8]) -> Keys {
     let letters = field(line, 3);
     Keys {

@@ -1,4 +1,7 @@
 // Texts of programs: bytes, decimal numbers and bytes in base 16 put into a lent room, and the fields of a line read back.
+//
+// Room and place go side by side: a struct that held the lent room would need, in each clause, that it still holds the same one. Digits are put here and not by
+// `write!`: of a room that is too short `Puts` says which of them are there.
 #![tactic(auto)]
 
 pub mod reading;

@@ -112,6 +112,8 @@ pub fn unsigned_of(v: i8) -> u8
     v.cast_unsigned()
 }
 
+// Four functions and no generic one: an array's length cannot be worked out from a type, and each is a call of the library's method.
+
 // The two bytes of a number, low byte first.
 pub fn u16_bytes(v: u16) -> [u8; 2]
     ensures { result ≡ le 2 v }
