@@ -33,7 +33,6 @@ pub fn connection() -> Connection {
     }
 }
 
-// Each program spells the mode in its own way.
 fn mode_of(letter: u8) -> Mode {
     match letter {
         b's' => Mode::Setup,

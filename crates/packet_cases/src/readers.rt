@@ -9,7 +9,6 @@ use result::{PresenceResult, ResultPacket, ResultRead, UptimeResult};
 use text::reading;
 use wire::{Part, Refusal};
 
-// Each program spells the mode in its own way.
 fn mode_of(way: &[u8]) -> Mode {
     match wire::byte_at(way, 0) {
         b's' => Mode::Setup,

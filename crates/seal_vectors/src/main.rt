@@ -27,7 +27,6 @@ struct Case {
     keys: Keys,
 }
 
-// Each program spells the mode in its own way.
 fn mode_of(s: &[u8]) -> Mode {
     match s {
         b"setup" => Mode::Setup,

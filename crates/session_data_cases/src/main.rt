@@ -20,7 +20,6 @@ fn field(line: &[u8], k: usize) -> &[u8] {
     reading::field(line, b'|', k)
 }
 
-// Each program spells the mode in its own way.
 fn mode_of(line: &[u8]) -> Mode {
     match field(line, 2) {
         b"setup" => Mode::Setup,
