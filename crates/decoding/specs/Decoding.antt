@@ -7,7 +7,7 @@ use Rattle.text.specs.Ascii.{ascii}
 use Rattle.text.specs.Digits.{decimal, decimal_in, hex}
 use Rattle.line.specs.declared.Event.{Event}
 use Rattle.line.specs.declared.Event.TheVariants.{Frame, Refused}
-use Rattle.listing.specs.Listing.{event_words}
+use Rattle.listing.specs.Listing.{refused_words, event_words}
 
 -- when a refusal is given, in the words of document 01's table
 unfoldable pub reason : ℕ → List ℕ
@@ -36,6 +36,10 @@ details (Some (Refused r place)) payload = reason (number_of r)
 abbrev pub event_line : ℕ → Option Event → List ℕ → List ℕ
 event_line offset e payload = decimal offset ++ ascii " " ++ event_words e ++ details e payload ++ ascii "\n"
 
+-- a refusal's, whatever its number
+abbrev pub refused_line : ℕ → ℕ → ℕ → List ℕ
+refused_line offset n place = decimal offset ++ ascii " " ++ refused_words n place ++ reason n ++ ascii "\n"
+
 -- ---- the frame at offset 6 of the sample, and the refusal at offset 58
 example_frame : event_line 6 (Some (Frame 1 0 0 3)) (0 ∷ 0 ∷ 0 ∷ []) ≡ ascii "6 frame 0 3: 000000\n"
 unfolding decimal_in hex payload_text
@@ -44,6 +48,11 @@ example_frame = refl
 example_refused : event_line 58 (Some (Refused BadFrameSize 3)) [] ≡ ascii "58 refused 3 3: size below 5 or above 512\n"
 unfolding decimal_in reason
 example_refused = refl
+
+-- a number that no refusal has
+example_any : refused_line 58 200 7 ≡ ascii "58 refused 200 7\n"
+unfolding decimal_in reason
+example_any = refl
 
 -- a payload of 32 bytes is not cut, one of 33 is
 example_whole : payload_text (replicate 32 0xAB) ≡ ascii ": abababababababababababababababababababababababababababababababab"

@@ -2,24 +2,23 @@
 #![tactic(auto)]
 
 ghost use Rattle.std.specs.Prelude.{◌≡◌, ◌+◌, ◌≤◌, length, IfOk};
-ghost use Rattle.wire.specs.Refusals.{number_of};
 ghost use Rattle.text.specs.Puts.{Puts};
 ghost use Rattle.decoding.specs.Decoding as specs;
 
 use line::Event;
 use std::io;
-use wire::{Part, Refusal};
+use wire::Part;
 
 // Behind a refusal's number and place, when it is given: the words of document 01's table; nothing where no byte of a line causes it.
 #[tactic(auto, using(text::proofs::Puts::puts_none), unfolding(crate::specs::Decoding::reason))]
-fn reason(out: &mut [u8], at: usize, refusal: Refusal) -> usize
-    ensures { Puts (specs.reason (number_of refusal)) at out.old result out.new }
+fn reason(out: &mut [u8], at: usize, number: u8) -> usize
+    ensures { Puts (specs.reason number) at out.old result out.new }
 {
-    match refusal {
-        Refusal::StartInFrame => text::put(out, at, b": 7E inside an unfinished frame"),
-        Refusal::BadEscape => text::put(out, at, b": 5C followed by other than 3E, 1C or 7E"),
-        Refusal::BadFrameSize => text::put(out, at, b": size below 5 or above 512"),
-        Refusal::CrcDiffers => text::put(out, at, b": CRC differs"),
+    match number {
+        1 => text::put(out, at, b": 7E inside an unfinished frame"),
+        2 => text::put(out, at, b": 5C followed by other than 3E, 1C or 7E"),
+        3 => text::put(out, at, b": size below 5 or above 512"),
+        4 => text::put(out, at, b": CRC differs"),
         _ => at,
     }
 }
@@ -48,7 +47,7 @@ fn details(out: &mut [u8], at: usize, e: Option<Event>, payload: &[u8]) -> usize
     match e {
         None => at,
         Some(Event::Frame { .. }) => payload_text(out, at, payload),
-        Some(Event::Refused { refusal, .. }) => reason(out, at, refusal),
+        Some(Event::Refused { refusal, .. }) => reason(out, at, refusal.number()),
     }
 }
 
@@ -66,6 +65,17 @@ pub fn event_line(
     let b = text::put(out, a, b" ");
     let c = listing::event_words(out, b, e);
     let d = details(out, c, e, payload);
+    text::put(out, d, b"\n")
+}
+
+// A refusal's line, whatever its number: also one that no refusal has.
+pub fn refused_line(out: &mut [u8], at: usize, offset: usize, number: u8, place: usize) -> usize
+    ensures { Puts (specs.refused_line offset number place) at out.old result out.new }
+{
+    let a = text::decimal(out, at, offset as u64);
+    let b = text::put(out, a, b" ");
+    let c = listing::refused_words(out, b, number, place);
+    let d = reason(out, c, number);
     text::put(out, d, b"\n")
 }
 

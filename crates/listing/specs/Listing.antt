@@ -14,11 +14,15 @@ use Rattle.wire.specs.declared.refusals.Refusal.TheVariants.{BadEscape}
 abbrev pub words : List ℕ → ℕ → ℕ → List ℕ
 words word a b = word ++ decimal a ++ ascii " " ++ decimal b
 
+-- refused N PLACE
+abbrev pub refused_words : ℕ → ℕ → List ℕ
+refused_words n place = words (ascii "refused ") n place
+
 -- what an event is, nothing where there is none: frame TYPE LENGTH, refused N PLACE
 abbrev pub event_words : Option Event → List ℕ
 event_words None = []
 event_words (Some (Frame major minor wrapper len)) = words (ascii "frame ") wrapper len
-event_words (Some (Refused r place)) = words (ascii "refused ") (number_of r) place
+event_words (Some (Refused r place)) = refused_words (number_of r) place
 
 abbrev pub words_line : List ℕ → ℕ → ℕ → List ℕ
 words_line word a b = words word a b ++ ascii "\n"
@@ -36,11 +40,15 @@ event_text None = []
 event_text (Some (Frame major minor wrapper len)) = frame_line wrapper len
 event_text (Some (Refused r place)) = refused_line (number_of r) place
 
+-- a refusal's numbers, behind a space: refused N PLACE
+abbrev pub refused_numbers : ℕ → ℕ → List ℕ
+refused_numbers n place = ascii " refused" ++ decimals (n ∷ place ∷ [])
+
 -- an event with all its numbers, behind a space: frame MAJOR MINOR TYPE LENGTH, refused N PLACE
 abbrev pub event_numbers : Option Event → List ℕ
 event_numbers None = []
 event_numbers (Some (Frame major minor wrapper len)) = ascii " frame" ++ decimals (major ∷ minor ∷ wrapper ∷ len ∷ [])
-event_numbers (Some (Refused r place)) = ascii " refused" ++ decimals (number_of r ∷ place ∷ [])
+event_numbers (Some (Refused r place)) = refused_numbers (number_of r) place
 
 -- the lines of all that is handed out
 unfoldable pub lines_of : List Emitted → List ℕ
@@ -76,3 +84,8 @@ example_numbers = refl
 example_refused : event_text (Some (Refused BadEscape 208)) ≡ ascii "refused 2 208\n"
 unfolding decimal_in
 example_refused = refl
+
+-- a number that no refusal has
+example_any : refused_line 200 7 ≡ ascii "refused 200 7\n"
+unfolding decimal_in
+example_any = refl

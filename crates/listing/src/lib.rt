@@ -6,11 +6,19 @@ ghost use Rattle.std.specs.Prelude.{◌≡◌, ◌+◌, ◌≤◌, ◌<◌, leng
 ghost use Rattle.text.specs.Puts.{Puts};
 ghost use Rattle.line.specs.Receive.{holding};
 ghost use Rattle.line.specs.Line.{after};
-ghost use Rattle.listing.specs.Listing.{event_words, event_text, event_numbers, Lists};
+ghost use Rattle.listing.specs.Listing.{refused_words, refused_line, refused_numbers, event_words, event_text, event_numbers, Lists};
 
 use line::{Event, Progress, Receiver};
 use std::io;
 use std::io::Read;
+
+// `refused N PLACE`, whatever the number: also one that no refusal has.
+pub fn refused_words(out: &mut [u8], at: usize, number: u8, place: usize) -> usize
+    ensures { Puts (refused_words number place) at out.old result out.new }
+{
+    let behind = text::named(out, at, b"refused ", number as u64);
+    text::named(out, behind, b" ", place as u64)
+}
 
 // `frame TYPE LENGTH` or `refused N PLACE`, nothing where there is no event: put into `out` from `at` on; the answer is where it ends.
 pub fn event_words(out: &mut [u8], at: usize, e: Option<Event>) -> usize
@@ -23,13 +31,20 @@ pub fn event_words(out: &mut [u8], at: usize, e: Option<Event>) -> usize
             text::named(out, a, b" ", len as u64)
         }
         Some(Event::Refused { refusal, place }) => {
-            let a = text::named(out, at, b"refused ", refusal.number() as u64);
-            text::named(out, a, b" ", place as u64)
+            refused_words(out, at, refusal.number(), place)
         }
     }
 }
 
-// The same as a line.
+// A refusal's words as a line.
+pub fn refused_line(out: &mut [u8], at: usize, number: u8, place: usize) -> usize
+    ensures { Puts (refused_line number place) at out.old result out.new }
+{
+    let behind = refused_words(out, at, number, place);
+    text::put(out, behind, b"\n")
+}
+
+// An event's words as a line.
 pub fn event_line(out: &mut [u8], at: usize, e: Option<Event>) -> usize
     ensures { Puts (event_text e) at out.old result out.new }
 {
@@ -38,6 +53,15 @@ pub fn event_line(out: &mut [u8], at: usize, e: Option<Event>) -> usize
         None => behind,
         Some(_) => text::put(out, behind, b"\n"),
     }
+}
+
+// ` refused N PLACE`, whatever the number.
+pub fn refused_numbers(out: &mut [u8], at: usize, number: u8, place: usize) -> usize
+    ensures { Puts (refused_numbers number place) at out.old result out.new }
+{
+    let numbers = [number as u64, place as u64];
+    let behind = text::put(out, at, b" refused");
+    text::decimals(out, behind, &numbers)
 }
 
 // ` frame MAJOR MINOR TYPE LENGTH` or ` refused N PLACE`, nothing where there is no event.
@@ -59,9 +83,7 @@ pub fn event_numbers(out: &mut [u8], at: usize, e: Option<Event>) -> usize
             text::decimals(out, behind, &numbers)
         }
         Some(Event::Refused { refusal, place }) => {
-            let numbers = [refusal.number() as u64, place as u64];
-            let behind = text::put(out, at, b" refused");
-            text::decimals(out, behind, &numbers)
+            refused_numbers(out, at, refusal.number(), place)
         }
     }
 }

@@ -10,5 +10,4 @@ returns-in-Some-Frame c =
 pub returns-in-Some-Refused : goal.returns-in-Some-Refused
 returns-in-Some-Refused c =
     let e = c.in-Some-Refused.is in
-    rw (e, rw e at c.in-Some-Refused.field-0-is)
-    (puts_then c.put-behind-in-Some-Refused.ensures (rw c.number.ensures at c.decimals-in-Some-Refused.ensures))
+    rw (e, rw e at c.in-Some-Refused.field-0-is) (rw c.number.ensures at c.refused_numbers.ensures)

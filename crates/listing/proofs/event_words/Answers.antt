@@ -11,5 +11,4 @@ returns-in-Some-Frame c =
 pub returns-in-Some-Refused : goal.returns-in-Some-Refused
 returns-in-Some-Refused c =
     let e = c.in-Some-Refused.is in
-    rw (e, rw e at c.in-Some-Refused.field-0-is)
-    (words_put (ascii "refused ") _ _ (rw c.number.ensures at c.named-a-in-Some-Refused.ensures) c.named-in-Some-Refused.ensures)
+    rw (e, rw e at c.in-Some-Refused.field-0-is) (rw c.number.ensures at c.refused_words.ensures)
