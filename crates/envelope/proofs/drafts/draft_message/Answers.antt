@@ -1,0 +1,12 @@
+-- `envelope::drafts::draft_message` meets its contract. Assumes nothing.
+use mathlib.Core.Path.{◌∙◌, sym}
+use Rattle.access.specs.declared.Level.TheVariants.{Admin}
+use Rattle.session.specs.Keys.{key_for}
+use Rattle.envelope.specs.Sealed.{unpadded}
+use Rattle.envelope.proofs.Drafted.{draft_misfit}
+use Rattle.envelope.proofs.drafts.draft_message.Goals as goal
+
+pub returns-then-outside : goal.returns-then-outside
+returns-then-outside c =
+    let a = c.args in
+    draft_misfit (key_for a.keys a.mode Admin) 0 (unpadded a.message.now) a.room (sym c.outside.ensures ∙ c.if-outside.true)
