@@ -40,6 +40,11 @@ module _ (key : Option (List ℕ)) (id : ℕ) (s : List ℕ) (room : ℕ) where
   unfolding draft_of
   draft_full h e = rw (le-ltb room (4 + 16 * blocks_for (length s)) h, e)
 
+-- of a size within the limits: key, ID and text by the names of the definitions
+pub drafted_as : (room : ℕ) {key key' : Option (List ℕ)} {bad : Bool} {id id' : ℕ} {s s' : List ℕ} {d : Result Draft Refusal}
+    → bad ≡ false → key ≡ key' → id ≡ id' → s ≡ s' → d ≡ draft_of key false id s room → d ≡ draft_of key' bad id' s' room
+drafted_as room e ek ei es w = cc
+
 -- ---- a draft that was made, and one that was refused
 module _ (key : Option (List ℕ)) (bad : Bool) (id : ℕ) (s : List ℕ) (room : ℕ) where
   -- no rule was broken, and the draft is the full one
