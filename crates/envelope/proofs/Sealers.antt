@@ -1,24 +1,23 @@
 -- How a sealer makes an envelope, and how it ends. Assumes nothing.
-use mathlib.Core.Path.{◌≡◌, refl, sym, ap, ◌∙◌, subst}
+use mathlib.Core.Path.{◌≡◌, refl, sym, ap, ◌∙◌}
 use mathlib.Core.Bool.{Bool, true, false, not}
 use mathlib.Core.List.{List, [], ◌∷◌, ◌++◌, append_assoc, append-nil}
 use Prim.Native.Nat.{ℕ, zero, suc, ◌+◌, ◌-◌, ◌*◌, ◌≤◌, ◌<◌}
 use native.Mathlib.Nat.{zero-add, not-suc-le-zero, le_of_suc-le-suc}
 use native.Mathlib.Omega.{arith}
-use lib.ListN.{length, get_or, take, drop, replicate, length-append, length-drop, drop_of_length-le}
+use lib.ListN.{length, get_or, take, drop, replicate, length-drop, drop_of_length-le}
 use lib.Seq.{length-take-le, take_at, take_all, take-append-add, drop-append-add, drop-drop}
 use lib.Dec.{ltb}
 use borrow.Author.Tests.{lt-ltb, le-ltb, ltb-false}
 use Rattle.wire.proofs.Choice.{or_fails}
 use Rattle.wire.specs.Rules.{◌when◌}
 use Rattle.wire.specs.Writing.{Stores, no_room, placed}
-use Rattle.std.specs.Prelude.{Result, Ok, Option, is_some}
+use Rattle.std.specs.Prelude.{Result, Ok, Option}
 use Rattle.wire.specs.declared.refusals.Refusal.{Refusal}
 use Rattle.wire.specs.Refusals.{refusing}
-use Rattle.wire.proofs.Writing.{stores_refused, stores_past}
+use Rattle.wire.proofs.Writing.{stores_refused}
 use Rattle.aes.specs.Ctr.{blocks_for, ctr_of}
 use Rattle.aes.proofs.KeyStream.{length_ctr}
-use Rattle.session.specs.Keys.{key_bytes}
 use Rattle.envelope.specs.Blocks.{padding_for, padded, enveloped, outside, sealer_rules, Seals}
 use Rattle.envelope.proofs.Bytes.{three}
 
@@ -53,15 +52,11 @@ zeros_behind h b {t} n k et eu =
     (sym (append_assoc h b (replicate (n - (length h + length b)) 0)))
 
 -- as many bytes of a text and its zeros as the blocks hold
-padded_front : (s : List ℕ) (l room n : ℕ) → length s ≡ l → n ≡ 16 * blocks_for l → n ≤ room → take n (s ++ replicate (room - l) 0) ≡ padded s
+pub padded_front : (s : List ℕ) (l room n : ℕ) → length s ≡ l → n ≡ 16 * blocks_for l → n ≤ room → take n (s ++ replicate (room - l) 0) ≡ padded s
 padded_front s l room n el e h =
     let k : ℕ = padding_for s in
     let d : n ≡ length s + k = omega arith in
     rw d (take-append-add s (replicate (room - l) 0) k ∙ ap (λ (l : List ℕ). s ++ l) (take_zeros k (room - l) (omega arith)))
-
-pub padded_text : (h b : List ℕ) {n : ℕ} {text : List ℕ} → length h + length b ≤ 496 → n ≡ 16 * blocks_for (length h + length b)
-    → text ≡ (h ++ b) ++ replicate (496 - (length h + length b)) 0 → take n text ≡ padded (h ++ b)
-padded_text h b {n} k en et = ap (take n) et ∙ padded_front (h ++ b) (length h + length b) 496 n (length-append h b) en (omega arith)
 
 -- ---- the image: four bytes, and the blocks behind them
 image_made : (key pn sn : List ℕ) (id : ℕ) (text room : List ℕ) {o y : List ℕ} → length pn ≡ 3 → 4 ≤ length room
@@ -107,20 +102,6 @@ module _ (image room : List ℕ) (held : Bool) where
   made h e l a =
       let k = le-ltb (length room) (0 + length image) (omega arith) in
       record { number = rw (k, e, l); answers = rw (k, e, l); leaves = rw (k, e, a) }
-
--- what is left where the size is within the limits
-abbrev pub Ends : Option (List ℕ) → List ℕ → List ℕ → Result ℕ Refusal → List ℕ → Type 0
-Ends key image room answer after = Stores (no_room 0 image room ∷ (10 when not (is_some key)) ∷ []) 0 image room answer after
-
--- key, ID and text by the names of the definitions
-pub sealed_as : (pn sn room : List ℕ) (bad : Bool) {key key' : Option (List ℕ)} {id id' : ℕ} {text text' : List ℕ} {answer : Result ℕ Refusal} {after : List ℕ}
-    → bad ≡ false → key ≡ key' → id ≡ id' → text ≡ text' → Ends key (enveloped (key_bytes key) pn sn id text) room answer after
-    → Seals key' bad (enveloped (key_bytes key') pn sn id' text') room answer after
-sealed_as pn sn room bad {key} {key'} {id} {id'} {text} {text'} {answer} {after} e ek ei et w =
-    stores_past 0 (enveloped (key_bytes key') pn sn id' text') room 17 bad e
-    (subst (λ (k : Option (List ℕ)). Ends k (enveloped (key_bytes k) pn sn id' text') room answer after) ek
-    (subst (λ (i : ℕ). Ends key (enveloped (key_bytes key) pn sn i text') room answer after) ei
-    (subst (λ (t : List ℕ). Ends key (enveloped (key_bytes key) pn sn id t) room answer after) et w)))
 
 -- a size within the limits, and one outside
 pub within : (least most n : ℕ) {b : Bool} → b ≡ outside least most n → b ≡ false → (least ≤ n) × (n ≤ most)

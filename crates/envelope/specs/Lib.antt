@@ -1,3 +1,4 @@
 pub mod Blocks
 pub mod Sealed
 pub mod Characteristic
+pub mod Draft

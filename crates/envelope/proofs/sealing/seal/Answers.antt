@@ -1,23 +1,33 @@
 -- `envelope::sealing::seal` meets its contract. Assumes nothing.
-use mathlib.Core.Path.{◌≡◌, refl, sym, ap, ◌∙◌}
-use mathlib.Core.List.{List, ◌++◌}
-use Prim.Native.Nat.{ℕ}
-use native.Mathlib.Omega.{arith}
 use lib.ListN.{length}
-use Rattle.envelope.specs.Blocks.{padded, outside}
-use Rattle.envelope.specs.Sealed.{plain_text, sealed_image}
-use Rattle.envelope.proofs.Sealers.{sealed_as, padded_text, within}
+use Rattle.std.proofs.lemmas.Result.{err_from_is_err_and}
+use Rattle.access.specs.declared.Level.TheVariants.{Admin}
+use Rattle.session.specs.Keys.{key_for}
+use Rattle.envelope.specs.Blocks.{outside}
+use Rattle.envelope.specs.Sealed.{unpadded, plain_text, sealed_image}
+use Rattle.envelope.proofs.Drafted.{draft_fits, refused_seals, draft_seals, message_short}
 use borrow.Author.Rules.{rules}
 use Rattle.envelope.proofs.sealing.seal.Goals as goal
+
+pub returns-in_err-draft : goal.returns-in_err-draft
+unfolding sealed_image plain_text
+returns-in_err-draft g c =
+    let a = c.args in
+    let m = a.message.now in
+    let p = err_from_is_err_and c.from_residual.result c.from_residual.ensures.1 in
+    rw (p.1, p.2)
+    (refused_seals (key_for a.keys a.mode Admin) (outside 2 490 (length m)) 0 (unpadded m) a.packet_nonce a.session_nonce a.out.now (search rules) c.in_err-draft.ensures)
+
+pub envelop-requires : goal.envelop-requires
+envelop-requires g c =
+    let a = c.args in
+    let m = a.message.now in
+    draft_fits (key_for a.keys a.mode Admin) (outside 2 490 (length m)) 0 (unpadded m) (length a.out.now) (message_short m) c.in_ok-draft.ensures
 
 pub returns : goal.returns
 unfolding sealed_image plain_text
 returns g c =
     let a = c.args in
-    let fits = within 2 490 (length a.message.now) c.outside.ensures c.if-outside.false in
-    let six : length c.header-head.result ≡ 6 = search rules in
-    sealed_as a.packet_nonce a.session_nonce a.out.now (outside 2 490 (length a.message.now)) (sym c.outside.ensures ∙ c.if-outside.false)
-    c.serving-key.ensures refl
-    (padded_text c.header-head.result a.message.now (omega (arith, six, fits.1)) (omega (arith, six, c.blocks_for-n.ensures)) c.with_zeros-text.ensures
-    ∙ ap (λ (h : List ℕ). padded (h ++ a.message.now)) c.header-head.ensures)
-    c.envelop.ensures
+    let m = a.message.now in
+    draft_seals (key_for a.keys a.mode Admin) (outside 2 490 (length m)) 0 (unpadded m) a.packet_nonce a.session_nonce a.out.now (search rules) (message_short m)
+    c.in_ok-draft.ensures c.envelop.ensures.0 c.envelop.ensures.1

@@ -1,7 +1,7 @@
--- `envelope::sealing::with_zeros` meets its contract. Assumes nothing.
+-- `envelope::drafts::with_zeros` meets its contract. Assumes nothing.
 use native.Mathlib.Omega.{arith}
 use Rattle.envelope.proofs.Sealers.{stored, zeros_behind}
-use Rattle.envelope.proofs.sealing.with_zeros.Goals as goal
+use Rattle.envelope.proofs.drafts.with_zeros.Goals as goal
 
 pub returns : goal.returns
 returns c =
