@@ -12,10 +12,12 @@ use borrow.Author.Tests.{le-ltb, eqb-true, not-false, ltb-false}
 use Rattle.wire.specs.Rules.{Rule, ◌when◌, or_else, first_broken, verdict, judge}
 use Rattle.wire.proofs.Rules.{first_append, first_right, first_none, judge_pass}
 use Rattle.wire.proofs.Choice.{or_fails}
+use Rattle.wire.proofs.Listed.{judged_ok, judged_err}
+use Rattle.wire.specs.Refusals.{refusing, checked_by}
 use Rattle.wire.specs.Parts.{part, part_of}
 use Rattle.wire.specs.Writing.{Stores, no_room}
 use Rattle.wire.proofs.Lists.{part_in}
-use Rattle.std.specs.Prelude.{Result}
+use Rattle.std.specs.Prelude.{Result, Ok, Err}
 use Rattle.wire.specs.declared.refusals.Refusal.{Refusal}
 use Rattle.envelope.specs.Blocks.{outside, wrong_length, room_rule, blocks_in, cleared}
 use Rattle.bridge.specs.Opener.{block_rules}
@@ -48,6 +50,15 @@ stop refuse (suc n) good h = refl
 
 pub judge_stop {ℓ} : {A : Type ℓ} (refuse : ℕ → A) (xs : List Rule) (good : A) (n : ℕ) → n ≡ first_broken xs → (n ≡ 0 → ⊥) → judge refuse xs good ≡ refuse n
 judge_stop refuse xs good n e h = ap (λ (k : ℕ). verdict refuse k good) (sym e) ∙ stop refuse n good h
+
+-- a judge that hands something out, as a judge alone
+pub judged_refused : {A : Type 0} (rules : List Rule) (good : A) {r : Refusal} → Err r ≡ judge refusing rules (Ok good) → Err r ≡ checked_by rules
+judged_refused rules good e =
+    let j = judged_err rules good e in
+    ap Err (sym j.2) ∙ sym (judge_stop refusing rules (Ok tt) (suc j.0) j.1 (λ z. omega arith))
+
+pub judged_passed : {A : Type 0} (rules : List Rule) (good : A) {a : A} → Ok a ≡ judge refusing rules (Ok good) → Ok tt ≡ checked_by rules
+judged_passed rules good e = sym (judge_pass refusing rules (Ok tt) (judged_ok rules e).0)
 
 -- what 7 and 25 leave where neither is given
 pub blocks_whole : (p : List ℕ) (room : ℕ) (more : List Rule) → first_broken (block_rules p room ++ more) ≡ 0

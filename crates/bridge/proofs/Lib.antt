@@ -3,3 +3,4 @@ pub mod Judging
 pub mod Opening
 pub mod Commands
 pub mod Contents
+pub mod Builds

@@ -1,5 +1,7 @@
 -- How the code splits an opening, and what its parts come to. The laws in proofs/Opening.antt and Commands.antt put them together.
-use Rattle.std.specs.Prelude.{ℕ, ◌+◌, ◌*◌, Bool, true, false, List, ◌++◌, length, drop, replicate, Result, Ok, Err}
+use Rattle.std.specs.Prelude.{ℕ, ◌+◌, ◌*◌, Bool, true, false, List, [], ◌++◌, length, drop, replicate, eqb, Result, Ok, Err}
+use Rattle.wire.specs.Choice.{pick}
+use Rattle.wire.specs.Parts.{part, part_of}
 use Rattle.wire.specs.Refusals.{refusal_of}
 use Rattle.wire.specs.Rules.{Rule, judge}
 use Rattle.wire.specs.declared.refusals.Refusal.{Refusal}
@@ -16,7 +18,7 @@ use Rattle.envelope.specs.Characteristic.{characteristic_rules}
 use Rattle.bridge.specs.Reply.{uart_refused, characteristic_refused}
 use Rattle.bridge.specs.Content.{Answer, CommandAnswer}
 use Rattle.bridge.specs.Place.{place_from}
-use Rattle.bridge.specs.Opener.{plain_rules, uart_entry_rules, uart_text_rules, uart_text, accepted_message, session_by}
+use Rattle.bridge.specs.Opener.{head_rules, plain_rules, uart_entry_rules, uart_text_rules, uart_text, accepted_message, session_by}
 use Rattle.bridge.specs.Characteristic.{accepted_command, packet_text_rules}
 use Rattle.bridge.specs.declared.Refused.{Refused}
 use Rattle.bridge.specs.declared.Context.{Context}
@@ -34,6 +36,14 @@ answer_by inWork start end (Err r) = Err (uart_refused r)
 
 abbrev pub opened_as : Answer → Session → Opened
 opened_as a s = record { answer = a; session = s }
+
+-- the rules before the cipher runs: of an encrypted message all up to 28
+unfoldable pub frame_entry_rules : Context → ℕ → ℕ → ℕ → List ℕ → List Rule
+frame_entry_rules g room major wrapper p = head_rules major wrapper ++ pick (eqb wrapper 128) (uart_entry_rules g room p) []
+
+-- the blocks that a payload was deciphered to, at the front of the work buffer
+abbrev pub text_in : List ℕ → List ℕ → List ℕ
+text_in p work = part_of work (part 0 (16 * blocks_in p))
 
 -- a plain message: the answer, and the session after it
 unfoldable pub plain_answer : Context → List ℕ → Answer

@@ -1,10 +1,10 @@
 // The opener of characteristic packets.
-ghost use Rattle.std.specs.Prelude.{◌≡◌, Ok, Err, ◌++◌, ◌+◌, ◌*◌, ◌≤◌, length, drop};
+ghost use Rattle.std.specs.Prelude.{◌≡◌, Ok, Err, ◌++◌, ◌+◌, ◌*◌, ◌≤◌, length, get_or, drop};
 ghost use Rattle.wire.specs.Rules.{first_broken, judge};
-ghost use Rattle.wire.specs.Refusals.{refusing};
+ghost use Rattle.wire.specs.Refusals.{refusing, checked_by};
 ghost use Rattle.session.specs.Keys.{key_bytes};
 ghost use Rattle.access.specs.Level.{level_of};
-ghost use Rattle.envelope.specs.Blocks.{blocks_in};
+ghost use Rattle.envelope.specs.Blocks.{blocks_in, nonce_number};
 ghost use Rattle.envelope.specs.Characteristic.{characteristic_rules};
 ghost use Rattle.bridge.specs.Characteristic as specs;
 ghost use Rattle.bridge.specs.Opening as opening;
@@ -18,12 +18,19 @@ use aes::block_cipher::BlockCipher;
 use control::Command;
 use wire::{Part, Refusal};
 
+// The key of the level that a packet names, where it is held.
+pub fn key(link: Link, packet: &[u8]) -> Option<[u8; 16]>
+    ensures { result ≡ specs.level_key link packet.now }
+{
+    link.keys
+        .serving_number(link.mode, wire::byte_at(packet, 3))
+}
+
 // The key of the level that a packet names, or 10, 8 and 28.
 fn connection_key(link: Link, packet: &[u8]) -> Result<[u8; 16], Refusal>
     ensures { result ≡ judge refusing (specs.connection_rules link packet.now) (Ok (key_bytes (specs.level_key link packet.now))) }
 {
-    let level = wire::byte_at(packet, 3);
-    let Some(key) = link.keys.serving_number(link.mode, level) else {
+    let Some(key) = key(link, packet) else {
         return Err(Refusal::NoKey);
     };
     if !link.connection.is_there() {
@@ -39,6 +46,14 @@ fn admitted(packet: &[u8], room: usize, link: Link) -> Result<[u8; 16], Refusal>
 {
     judge_blocks(packet, room)?;
     connection_key(link, packet)
+}
+
+// What is refused of a packet before the cipher runs: 7, 25, 10, 8, 28.
+pub fn judge(packet: &[u8], room: usize, link: Link) -> Result<(), Refusal>
+    ensures { result ≡ checked_by (specs.packet_entry_rules link room packet.now) }
+{
+    admitted(packet, room, link)?;
+    Ok(())
 }
 
 // A level's access.
@@ -77,7 +92,7 @@ fn end_of(packet: &[u8]) -> usize
 }
 
 // A refusal that leaves the connection session as it was.
-fn refused(refusal: Refusal, link: Link) -> OpenedCommand
+pub fn refused(refusal: Refusal, link: Link) -> OpenedCommand
     ensures { result ≡ record { answer = Err (characteristic_refused refusal); connection = link.connection } }
 {
     OpenedCommand {
@@ -111,6 +126,20 @@ fn read_text(text: &[u8], level: u8, link: Link, number: u32) -> OpenedCommand
     }
 }
 
+// A packet whose blocks were deciphered into the work buffer: 11, 18, 13, 19 to 24, or the command and where its payload lies; and the connection session
+// after it. A refusal leaves the blocks zero.
+pub fn settle(packet: &[u8], link: Link, work: &mut [u8]) -> OpenedCommand
+    ensures { (result ≡ opening.command_text_opened link (get_or packet.now 3 0) (nonce_number packet.now) (opening.text_in packet.now work.old))
+        × (work.new ≡ opening.work_by (16 * blocks_in packet.now) work.old result.answer) }
+{
+    let n = 16 * envelope::blocks_in(packet);
+    let blocks = wire::part_of(work, Part { start: 0, len: n });
+    let level = wire::byte_at(packet, 3);
+    let opened = read_text(blocks, level, link, envelope::nonce_number(packet));
+    clear_refused(&opened.answer, work, n);
+    opened
+}
+
 // The blocks of a packet into the work buffer, which has room for them.
 fn decipher<C: BlockCipher>(key: [u8; 16], packet: &[u8], link: Link, work: &mut [u8])
     requires entered { first_broken (specs.packet_entry_rules link (length work.old) packet.now) ≡ 0 }
@@ -132,12 +161,7 @@ fn open_admitted<C: BlockCipher>(
     ensures { specs.OpensPacket link packet.now work.old result work.new }
 {
     decipher::<C>(key, packet, link, work);
-    let n = packet.len() - 4;
-    let blocks = wire::part_of(work, Part { start: 0, len: n });
-    let level = wire::byte_at(packet, 3);
-    let opened = read_text(blocks, level, link, envelope::nonce_number(packet));
-    clear_refused(&opened.answer, work, n);
-    opened
+    settle(packet, link, work)
 }
 
 // Opens a characteristic packet: the command and where its payload lies, or the refusal with its reply; and the connection session after it.

@@ -13,7 +13,7 @@ use access::Mode;
 pub use blocks::judge_blocks;
 use control::Command;
 use message::Message;
-pub use replies::{characteristic_refused, uart_refused};
+pub use replies::{characteristic_refused, characteristic_reply, uart_refused, uart_reply};
 use session::{Connection, Keys, Session};
 use units::Seconds;
 use wire::{Part, Refusal};

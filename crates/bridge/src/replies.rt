@@ -1,51 +1,48 @@
 // The reply column of document 01's table.
 ghost use Rattle.std.specs.Prelude.{◌≡◌};
-ghost use Rattle.wire.specs.Refusals.{number_of};
 ghost use Rattle.bridge.specs.Reply as table;
 
 use crate::{Refused, Reply};
 use wire::Refusal;
 
-// The reply that a refusal gets on the UART.
+// The reply that a refusal of this number gets on the UART: none where no refusal has it.
 #[tactic(auto, unfolding(crate::specs::Reply::entry_of))]
-fn reply_of(refusal: Refusal) -> Option<Reply>
-    ensures { (table.reply_entry result ≡ table.entry_of (number_of refusal)) × (result ≡ table.reply_for (table.entry_of (number_of refusal))) }
+pub fn uart_reply(number: u8) -> Option<Reply>
+    ensures { (table.reply_entry result ≡ table.entry_of number) × (result ≡ table.reply_for (table.entry_of number)) }
 {
-    match refusal {
-        Refusal::UnknownMajor => Some(Reply::Error(9900)),
-        Refusal::UnknownWrapper => Some(Reply::Error(9900)),
-        Refusal::BadLength => Some(Reply::Error(9900)),
-        Refusal::NoKey => Some(Reply::Error(9903)),
-        Refusal::NoSession => Some(Reply::Error(9902)),
-        Refusal::SessionRunOut => Some(Reply::Error(9902)),
-        Refusal::ValidationDiffers => Some(Reply::Error(9903)),
-        Refusal::BadMessageSize => Some(Reply::Error(9900)),
-        Refusal::PaddingNotZero => Some(Reply::Error(9900)),
-        Refusal::UnknownDataType => Some(Reply::Error(9900)),
-        Refusal::PlainRefused => Some(Reply::Error(9901)),
-        Refusal::EncryptedRefused => Some(Reply::Error(9900)),
-        Refusal::BadMessageData => Some(Reply::Error(9900)),
-        Refusal::BadPacketLength => Some(Reply::Code(32)),
-        Refusal::UnknownProtocol => Some(Reply::Code(44)),
-        Refusal::UnknownCommand => Some(Reply::Code(36)),
-        Refusal::NoMarkForMode => Some(Reply::Code(40)),
-        Refusal::NoMarkForLevel => Some(Reply::Code(48)),
-        Refusal::BadCommandLength => Some(Reply::Code(32)),
-        Refusal::BadCommandField => Some(Reply::Code(33)),
+    match number {
+        5 => Some(Reply::Error(9900)),
+        6 => Some(Reply::Error(9900)),
+        7 => Some(Reply::Error(9900)),
+        10 => Some(Reply::Error(9903)),
+        8 => Some(Reply::Error(9902)),
+        9 => Some(Reply::Error(9902)),
+        11 => Some(Reply::Error(9903)),
+        12 => Some(Reply::Error(9900)),
+        13 => Some(Reply::Error(9900)),
+        14 => Some(Reply::Error(9900)),
+        15 => Some(Reply::Error(9901)),
+        16 => Some(Reply::Error(9900)),
+        17 => Some(Reply::Error(9900)),
+        18 => Some(Reply::Code(32)),
+        19 => Some(Reply::Code(44)),
+        20 => Some(Reply::Code(36)),
+        21 => Some(Reply::Code(40)),
+        22 => Some(Reply::Code(48)),
+        23 => Some(Reply::Code(32)),
+        24 => Some(Reply::Code(33)),
         _ => None,
     }
 }
 
 // The reply on the characteristic.
-fn characteristic_reply_of(refusal: Refusal) -> Option<Reply>
-    ensures { (table.reply_entry result ≡ table.characteristic_entry_of (number_of refusal))
-        × (result ≡ table.reply_for (table.characteristic_entry_of (number_of refusal))) }
+pub fn characteristic_reply(number: u8) -> Option<Reply>
+    ensures { (table.reply_entry result ≡ table.characteristic_entry_of number) × (result ≡ table.reply_for (table.characteristic_entry_of number)) }
 {
-    let number = refusal.number();
     if number < 18 || number == 25 {
         return None;
     }
-    reply_of(refusal)
+    uart_reply(number)
 }
 
 // A refusal on the UART.
@@ -54,7 +51,7 @@ pub fn uart_refused(refusal: Refusal) -> Refused
 {
     Refused {
         refusal,
-        reply: reply_of(refusal),
+        reply: uart_reply(refusal.number()),
     }
 }
 
@@ -64,6 +61,6 @@ pub fn characteristic_refused(refusal: Refusal) -> Refused
 {
     Refused {
         refusal,
-        reply: characteristic_reply_of(refusal),
+        reply: characteristic_reply(refusal.number()),
     }
 }

@@ -1,9 +1,9 @@
 // The opener of frames.
-ghost use Rattle.std.specs.Prelude.{◌≡◌, Ok, Err, ◌++◌, ◌+◌, ◌-◌, ◌*◌, ◌≤◌, length, drop};
+ghost use Rattle.std.specs.Prelude.{◌≡◌, Ok, Err, ◌++◌, ◌+◌, ◌*◌, ◌≤◌, length, drop};
 ghost use Rattle.wire.specs.Rules.{first_broken, judge};
-ghost use Rattle.wire.specs.Refusals.{refusing};
+ghost use Rattle.wire.specs.Refusals.{refusing, checked_by};
 ghost use Rattle.session.specs.Keys.{key_bytes};
-ghost use Rattle.envelope.specs.Blocks.{blocks_in};
+ghost use Rattle.envelope.specs.Blocks.{blocks_in, nonce_number};
 ghost use Rattle.envelope.specs.Sealed.{late_rules};
 ghost use Rattle.bridge.specs.Opener as specs;
 ghost use Rattle.bridge.specs.Opening as opening;
@@ -68,7 +68,7 @@ fn answer_by(
 }
 
 // A refusal that leaves the session as it was.
-fn refused(refusal: Refusal, context: Context) -> Opened
+pub fn refused(refusal: Refusal, context: Context) -> Opened
     ensures { result ≡ record { answer = Err (uart_refused refusal); session = context.session } }
 {
     Opened {
@@ -78,7 +78,7 @@ fn refused(refusal: Refusal, context: Context) -> Opened
 }
 
 // A plain message: 7, 14 to 24, or the message; and the session after it.
-fn open_plain(payload: &[u8], context: Context) -> Opened
+pub fn open_plain(payload: &[u8], context: Context) -> Opened
     ensures { result ≡ opening.plain_opened context payload.now }
 {
     if payload.len() < 2 || 507 < payload.len() {
@@ -92,6 +92,13 @@ fn open_plain(payload: &[u8], context: Context) -> Opened
     }
 }
 
+// The key of an encrypted message, where it is held.
+pub fn key(context: Context) -> Option<[u8; 16]>
+    ensures { result ≡ specs.admin_key context }
+{
+    context.keys.serving(context.mode, Level::Admin)
+}
+
 // The key of an encrypted message, or 10, 8, 9 and 28.
 fn session_key(context: Context, payload: &[u8]) -> Result<[u8; 16], Refusal>
     ensures { result ≡ judge refusing (specs.session_rules context payload.now) (Ok (key_bytes (specs.admin_key context))) }
@@ -99,7 +106,7 @@ fn session_key(context: Context, payload: &[u8]) -> Result<[u8; 16], Refusal>
     if wire::byte_at(payload, 3) != 0 {
         return Err(Refusal::NoKey);
     }
-    let Some(key) = context.keys.serving(context.mode, Level::Admin) else {
+    let Some(key) = key(context) else {
         return Err(Refusal::NoKey);
     };
     if !context.session.is_there() {
@@ -118,6 +125,27 @@ fn admitted(payload: &[u8], room: usize, context: Context) -> Result<[u8; 16], R
 {
     judge_blocks(payload, room)?;
     session_key(context, payload)
+}
+
+// What is refused of a frame before the cipher runs: 5, 6, and of an encrypted message 7, 25, 10, 8, 9, 28. Any minor is accepted.
+pub fn judge(
+    major: u8,
+    wrapper: u8,
+    payload: &[u8],
+    room: usize,
+    context: Context,
+) -> Result<(), Refusal>
+    ensures { result ≡ checked_by (opening.frame_entry_rules context room major wrapper payload.now) }
+{
+    match wrapper {
+        _ if major != 1 => Err(Refusal::UnknownMajor),
+        0 => Ok(()),
+        128 => {
+            admitted(payload, room, context)?;
+            Ok(())
+        }
+        _ => Err(Refusal::UnknownWrapper),
+    }
 }
 
 // Where a message ends that stands behind CAFEBABE and its size.
@@ -152,6 +180,19 @@ fn read_text(text: &[u8], context: Context, number: u32) -> Opened
     }
 }
 
+// An encrypted message whose blocks were deciphered into the work buffer: 11, 12, 14 to 24, or the message and where its payload lies; and the session after
+// it. A refusal leaves the blocks zero.
+pub fn settle(payload: &[u8], context: Context, work: &mut [u8]) -> Opened
+    ensures { (result ≡ opening.text_opened context (nonce_number payload.now) (opening.text_in payload.now work.old))
+        × (work.new ≡ opening.work_by (16 * blocks_in payload.now) work.old result.answer) }
+{
+    let n = 16 * envelope::blocks_in(payload);
+    let blocks = wire::part_of(work, Part { start: 0, len: n });
+    let opened = read_text(blocks, context, envelope::nonce_number(payload));
+    clear_refused(&opened.answer, work, n);
+    opened
+}
+
 // The blocks of an encrypted message into the work buffer, which has room for them.
 fn decipher<C: BlockCipher>(key: [u8; 16], payload: &[u8], context: Context, work: &mut [u8])
     requires entered { first_broken (specs.uart_entry_rules context (length work.old) payload.now) ≡ 0 }
@@ -174,11 +215,7 @@ fn open_admitted<C: BlockCipher>(
         × (work.new ≡ opening.sealed_work context payload.now work.old) }
 {
     decipher::<C>(key, payload, context, work);
-    let n = payload.len() - 4;
-    let blocks = wire::part_of(work, Part { start: 0, len: n });
-    let opened = read_text(blocks, context, envelope::nonce_number(payload));
-    clear_refused(&opened.answer, work, n);
-    opened
+    settle(payload, context, work)
 }
 
 // An encrypted message.

@@ -59,13 +59,20 @@ fn packed_message(m: Message) -> u64
     }
 }
 
+// A refusal's number as an answer, whatever it is: also one that no refusal has.
+pub fn packed_refusal(number: u8) -> u64
+    ensures { result ≡ number }
+{
+    u64::from(number)
+}
+
 // An answer as one number: the message's, or the refusal's.
 pub fn packed_answer(a: Result<(Message, Place), Refused>) -> u64
     ensures { result ≡ packed_answer a }
 {
     match a {
         Ok((m, _)) => packed_message(m),
-        Err(r) => r.refusal.number() as u64,
+        Err(r) => packed_refusal(r.refusal.number()),
     }
 }
 

@@ -20,19 +20,19 @@ returns-then-byte_at-ne0 c = simp (ne_eqb _ _ (λ e. c.if-byte_at-ne0.true (c.by
 pub returns-in_default : goal.returns-in_default
 unfolding session_rules
 returns-in_default c =
-    let none : is_some (admin_key c.args.context) ≡ false = rw (← c.serving.ensures) (not_some c.serving.result c.in_default.not-Some) in
+    let none : is_some (admin_key c.args.context) ≡ false = rw (← c.key.ensures) (not_some c.key.result c.in_default.not-Some) in
     simp (sym c.byte_at.ensures.0 ∙ c.if-byte_at-ne0.false, none)
 
 pub returns-then-not-is_there : goal.returns-then-not-is_there
 unfolding session_rules
 returns-then-not-is_there c =
-    let held : is_some (admin_key c.args.context) ≡ true = ap (λ (o : Option (List ℕ)). is_some o) (sym c.serving.ensures ∙ c.in-Some.is) in
+    let held : is_some (admin_key c.args.context) ≡ true = ap (λ (o : Option (List ℕ)). is_some o) (sym c.key.ensures ∙ c.in-Some.is) in
     simp (sym c.byte_at.ensures.0 ∙ c.if-byte_at-ne0.false, held, sym c.is_there.ensures ∙ c.if-not-is_there.true)
 
 pub returns-then-not-valid_at : goal.returns-then-not-valid_at
 unfolding session_rules
 returns-then-not-valid_at c =
-    let held : is_some (admin_key c.args.context) ≡ true = ap (λ (o : Option (List ℕ)). is_some o) (sym c.serving.ensures ∙ c.in-Some.is) in
+    let held : is_some (admin_key c.args.context) ≡ true = ap (λ (o : Option (List ℕ)). is_some o) (sym c.key.ensures ∙ c.in-Some.is) in
     simp (
       sym c.byte_at.ensures.0 ∙ c.if-byte_at-ne0.false,
       held,
@@ -43,7 +43,7 @@ returns-then-not-valid_at c =
 pub returns-in_err-judge_nonce : goal.returns-in_err-judge_nonce
 unfolding session_rules
 returns-in_err-judge_nonce c =
-    let held : is_some (admin_key c.args.context) ≡ true = ap (λ (o : Option (List ℕ)). is_some o) (sym c.serving.ensures ∙ c.in-Some.is) in
+    let held : is_some (admin_key c.args.context) ≡ true = ap (λ (o : Option (List ℕ)). is_some o) (sym c.key.ensures ∙ c.in-Some.is) in
     let p = err_from_is_err_and c.from_residual.result c.from_residual.ensures.1 in
     rw (p.1, p.2)
     (simp (
@@ -57,7 +57,7 @@ returns-in_err-judge_nonce c =
 pub returns : goal.returns
 unfolding session_rules
 returns c =
-    let key : admin_key c.args.context ≡ Some c.in-Some.key = sym c.serving.ensures ∙ c.in-Some.is in
+    let key : admin_key c.args.context ≡ Some c.in-Some.key = sym c.key.ensures ∙ c.in-Some.is in
     let held : is_some (admin_key c.args.context) ≡ true = ap (λ (o : Option (List ℕ)). is_some o) key in
     simp (
       sym c.byte_at.ensures.0 ∙ c.if-byte_at-ne0.false,
