@@ -1,5 +1,5 @@
 // A plain opener of encrypted messages, in normal mode with the admin key alone and encryption not required. It gives the numbers of
-// crates/bridge_export/specs/Numbering.antt.
+// crates/numbering/specs/Numbering.antt.
 #[path = "../aes/plain.rs"]
 mod aes;
 
