@@ -12,7 +12,10 @@ use Rattle.wire.specs.Rules.{Rule, ◌when◌, first_broken, judge}
 use Rattle.wire.proofs.Rules.{first_none, none_append}
 use Rattle.wire.specs.Writing.{Stores, no_room}
 use Rattle.wire.proofs.Writing.{stores_same}
-use Rattle.std.specs.Prelude.{Result}
+use Rattle.std.specs.Prelude.{Result, Err}
+use Rattle.wire.specs.Refusals.{checked_by}
+use Rattle.wire.proofs.Listed.{judged_err}
+use Rattle.bridge.specs.Reply.{uart_refused, characteristic_refused}
 use Rattle.wire.specs.declared.refusals.Refusal.{Refusal}
 use Rattle.aes.specs.Ctr.{ctr_of}
 use Rattle.message.specs.Reading.{message_at}
@@ -85,6 +88,13 @@ module _ (g : Context) (major wrapper : ℕ) (p work : List ℕ) where
         let x = by_wrapper (eqb wrapper 128) e in
         opens_frame g major wrapper p work (q ∙ ap₂ opened_as x.0 x.1) x.2
 
+  -- the same, by what `judge` answers
+  pub frame_judged : {e : Refusal} {r : Opened} → Err e ≡ checked_by (frame_entry_rules g (length work) major wrapper p)
+      → r ≡ opened_as (Err (uart_refused e)) g.session → OpensFrame g major wrapper p work r work
+  frame_judged q o =
+      let j = judged_err (frame_entry_rules g (length work) major wrapper p) tt q in
+      frame_refused (λ z. absurd (omega arith)) j.1 (o ∙ ap (λ (x : Refusal). opened_as (Err (uart_refused x)) g.session) (sym j.2))
+
   -- where no rule before the cipher is broken
   module _ (entered : first_broken (frame_entry_rules g (length work) major wrapper p) ≡ 0) where
     head_holds : (not (eqb major 1) ≡ false) × (not (eqb wrapper 0 || eqb wrapper 128) ≡ false)
@@ -125,6 +135,13 @@ module _ (k : Link) (p work : List ℕ) where
   pub packet_refused : {n : ℕ} {r : OpenedCommand} → n ≡ first_broken (packet_entry_rules k (length work) p) → (n ≡ 0 → ⊥)
       → r ≡ opened_command_as (refused_command n) k.connection → OpensPacket k p work r work
   packet_refused e h q = let x = refused_before k p work e h in opens_packet k p work (q ∙ x.0) x.1
+
+  -- the same, by what `judge` answers
+  pub packet_judged : {e : Refusal} {r : OpenedCommand} → Err e ≡ checked_by (packet_entry_rules k (length work) p)
+      → r ≡ opened_command_as (Err (characteristic_refused e)) k.connection → OpensPacket k p work r work
+  packet_judged q o =
+      let j = judged_err (packet_entry_rules k (length work) p) tt q in
+      packet_refused j.1 (λ z. absurd (omega arith)) (o ∙ ap (λ (x : Refusal). opened_command_as (Err (characteristic_refused x)) k.connection) (sym j.2))
 
   pub packet_opened : {r : OpenedCommand} {key pn blocks middle after : List ℕ} {answer : Result ℕ Refusal} → first_broken (packet_entry_rules k (length work) p) ≡ 0
       → key ≡ key_bytes (level_key k p) → pn ≡ nonce_bytes p → blocks ≡ drop 4 p

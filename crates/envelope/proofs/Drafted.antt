@@ -65,13 +65,20 @@ module _ (key : Option (List ℕ)) (bad : Bool) (id : ℕ) (s : List ℕ) (room 
   unfolding draft_of
   drafted e = full_by bad (ltb room (4 + 16 * blocks_for (length s))) (is_some key) refl refl refl e
 
-  -- its blocks stand in its text, and there is room for them and the front
-  pub draft_fits : {d : Draft} → (bad ≡ false → length s ≤ 496) → Ok d ≡ draft_of key bad id s room → (d.len ≤ 496) × (4 + d.len ≤ room)
-  draft_fits short e =
+  -- there is room for its blocks and the front
+  pub draft_fits : {d : Draft} → Ok d ≡ draft_of key bad id s room → 4 + d.len ≤ room
+  draft_fits e =
+      let f = drafted e in
+      let l = ap (λ (x : Draft). x.len) f.is in
+      omega (arith, f.fits)
+
+  -- and its blocks stand in its text
+  pub draft_whole : {d : Draft} → (bad ≡ false → length s ≤ 496) → Ok d ≡ draft_of key bad id s room → d.len ≤ 496
+  draft_whole short e =
       let f = drafted e in
       let l = ap (λ (x : Draft). x.len) f.is in
       let k = short f.sized in
-      (omega arith, omega arith)
+      omega arith
 
 -- ---- what is sealed by it
 module _ (key : Option (List ℕ)) (bad : Bool) (id : ℕ) (s pn sn room : List ℕ) (three-bytes : length pn ≡ 3) where

@@ -5,7 +5,7 @@ use Rattle.access.specs.declared.Level.TheVariants.{Admin}
 use Rattle.session.specs.Keys.{key_for}
 use Rattle.envelope.specs.Blocks.{outside}
 use Rattle.envelope.specs.Sealed.{unpadded, plain_text, sealed_image}
-use Rattle.envelope.proofs.Drafted.{draft_fits, refused_seals, draft_seals, message_short}
+use Rattle.envelope.proofs.Drafted.{draft_whole, draft_fits, refused_seals, draft_seals, message_short}
 use borrow.Author.Rules.{rules}
 use Rattle.envelope.proofs.sealing.seal.Goals as goal
 
@@ -21,8 +21,10 @@ returns-in_err-draft g c =
 pub envelop-requires : goal.envelop-requires
 envelop-requires g c =
     let a = c.args in
-    let m = a.message.now in
-    draft_fits (key_for a.keys a.mode Admin) (outside 2 490 (length m)) 0 (unpadded m) (length a.out.now) (message_short m) c.in_ok-draft.ensures
+    let m = a.message.now in (
+      draft_whole (key_for a.keys a.mode Admin) (outside 2 490 (length m)) 0 (unpadded m) (length a.out.now) (message_short m) c.in_ok-draft.ensures,
+      draft_fits (key_for a.keys a.mode Admin) (outside 2 490 (length m)) 0 (unpadded m) (length a.out.now) c.in_ok-draft.ensures,
+    )
 
 pub returns : goal.returns
 unfolding sealed_image plain_text

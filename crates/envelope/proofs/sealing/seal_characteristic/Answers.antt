@@ -6,7 +6,7 @@ use Rattle.access.specs.Level.{level_number}
 use Rattle.session.specs.Keys.{key_for}
 use Rattle.envelope.specs.Blocks.{outside}
 use Rattle.envelope.specs.Characteristic.{characteristic_text, characteristic_image}
-use Rattle.envelope.proofs.Drafted.{draft_fits, refused_seals, draft_seals, packet_short}
+use Rattle.envelope.proofs.Drafted.{draft_whole, draft_fits, refused_seals, draft_seals, packet_short}
 use borrow.Author.Rules.{rules}
 use Rattle.envelope.proofs.sealing.seal_characteristic.Goals as goal
 
@@ -22,9 +22,11 @@ returns-in_err-draft g c =
 pub envelop-requires : goal.envelop-requires
 envelop-requires g c =
     let a = c.args in
-    let p = a.packet.now in
-    draft_fits (key_for a.keys a.mode a.level) (outside 5 492 (length p)) (level_number a.level) (a.validation ++ p) (length a.out.now)
-    (packet_short a.validation p (search rules)) c.in_ok-draft.ensures
+    let p = a.packet.now in (
+      draft_whole (key_for a.keys a.mode a.level) (outside 5 492 (length p)) (level_number a.level) (a.validation ++ p) (length a.out.now)
+          (packet_short a.validation p (search rules)) c.in_ok-draft.ensures,
+      draft_fits (key_for a.keys a.mode a.level) (outside 5 492 (length p)) (level_number a.level) (a.validation ++ p) (length a.out.now) c.in_ok-draft.ensures,
+    )
 
 pub returns : goal.returns
 unfolding characteristic_image characteristic_text
