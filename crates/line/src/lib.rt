@@ -1,7 +1,7 @@
 // The receiver of a serial line. Its progress, flags and counts, is passed by value through small functions; its store is lent.
 #![tactic(auto)]
 
-ghost use Rattle.std.specs.Prelude.{◌≡◌, false, ◌||◌, ◌+◌, ◌<◌, ◌≤◌, eqb, length, MatchOption};
+ghost use Rattle.std.specs.Prelude.{◌≡◌, true, false, ◌||◌, ◌+◌, ◌<◌, ◌≤◌, ℕ, eqb, length, get_or, max, MatchOption};
 ghost use Rattle.line.specs.Receive as specs;
 ghost use Rattle.line.specs.Line.{Received};
 ghost use Rattle.line.specs.Feed as feeding;
@@ -428,12 +428,38 @@ fn body(
     }
 }
 
+// Whether 16 bytes stand from a place on, none of them a start byte.
+fn sixteen_clear(s: &[u8], from: usize) -> bool
+    ensures { result ≡ true → (from + 16 ≤ length s.now) × ((k : ℕ) → from ≤ k → k < from + 16 → get_or s.now k 0 ≡ 0x7E → ⊥) }
+{
+    if s.len() < from || s.len() - from < 16 {
+        return false;
+    }
+    let mut any = false;
+    for b in &s[from..from + 16] {
+        any |= *b == 0x7E;
+    }
+    !any
+}
+
+// The place behind as many times 16 bytes as hold no start byte.
+fn clear_end(s: &[u8], from: usize) -> usize
+    ensures { (from ≤ result) × (result ≤ max from (length s.now)) × ((k : ℕ) → from ≤ k → k < result → get_or s.now k 0 ≡ 0x7E → ⊥) }
+{
+    let mut at = from;
+    // No `for`: a turn takes 16 bytes.
+    while sixteen_clear(s, at) {
+        at += 16;
+    }
+    at
+}
+
 // The place of the first start byte from a place on; the end where there is none.
 pub fn first_start(s: &[u8], from: usize) -> usize
     ensures { FirstStart s.now from result }
 {
-    // Not `position`: over noise that takes 1.3 times as long.
-    for i in from..s.len() {
+    // Byte by byte alone, what a quiet line takes hangs on where the loop's code lies: up to 1.3 times as long.
+    for i in clear_end(s, from)..s.len() {
         if s[i] == 0x7E {
             return i;
         }
