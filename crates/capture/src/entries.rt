@@ -14,8 +14,8 @@ fn packed(kind: u8, count: u16, major: u8, minor: u8, wrapper: u8, offset: u16) 
     let c = wire::u16_bytes(count);
     let o = wire::u16_bytes(offset);
     let bytes = [kind, c[0], c[1], major, minor, wrapper, o[0], o[1]];
-    // In two halves: taken as one number, a frame's major and minor are loaded together, and so is a refusal's byte that was just stored, which makes a capture
-    // of start bytes take 1.6 times as long.
+    // In two halves: taken as one number, a frame's major and minor are loaded as two bytes, and a refusal's one byte, which was just stored, with what stands
+    // behind it.
     let low = u64::from(wire::read_u32(&bytes, 0));
     let high = u64::from(wire::read_u32(&bytes, 4));
     low + 4294967296 * high

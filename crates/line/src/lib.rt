@@ -458,7 +458,7 @@ fn clear_end(s: &[u8], from: usize) -> usize
 pub fn first_start(s: &[u8], from: usize) -> usize
     ensures { FirstStart s.now from result }
 {
-    // Byte by byte alone, what a quiet line takes hangs on where the loop's code lies: up to 1.3 times as long.
+    // Byte by byte, behind the 16 bytes at once that hold none.
     for i in clear_end(s, from)..s.len() {
         if s[i] == 0x7E {
             return i;
